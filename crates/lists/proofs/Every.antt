@@ -1,0 +1,31 @@
+-- A fact of every number below n by one test that antt computes: `below` runs the test, `at-below` is the fact at each number.
+-- Assumes nothing.
+use mathlib.Core.Path.{_≡_, sym, subst}
+use mathlib.Core.Bool.{Bool, true, false, _&&_}
+use Prim.Native.Nat.{ℕ, zero, suc, _<_}
+use native.Mathlib.Decide.{ℕ-discrete}
+use native.Mathlib.Omega.{arith}
+use lib.Dec.{T}
+
+-- what a passed test of two says of each
+pub and-left : (a b : Bool) → T (a && b) → T a
+and-left true b t = tt
+and-left false b t = t
+
+pub and-right : (a b : Bool) → T (a && b) → T b
+and-right true b t = t
+and-right false b t = absurd t
+
+-- the test holds at each number below n
+unfoldable pub below : (ℕ → Bool) → ℕ → Bool
+below p zero = true
+below p (suc n) = p n && below p n
+
+pub at-below : (p : ℕ → Bool) (n : ℕ) → T (below p n) → (k : ℕ) → k < n → T (p k)
+unfolding below
+at-below p zero t k h = absurd (omega arith)
+at-below p (suc n) t k h = at (ℕ-discrete k n) (λ l. at-below p n (and-right (p n) (below p n) t) k l)
+  where
+    at : Dec (k ≡ n) → (k < n → T (p k)) → T (p k)
+    at (yes e) r = subst (λ i. T (p i)) (sym e) (and-left (p n) (below p n) t)
+    at (no e) r = r (omega arith)

@@ -1,0 +1,101 @@
+-- The laws of the first place at which a test holds: what it says of the places, the turns of a loop that looks for it, several lists.
+-- Assumes nothing.
+use mathlib.Core.Path.{_≡_, refl, ap, _∙_}
+use mathlib.Core.Bool.{Bool, true, false}
+use mathlib.Core.List.{List, [], _∷_, _++_}
+use Prim.Native.Nat.{ℕ, zero, suc, _+_, _≤_, _<_}
+use native.Mathlib.Numerals.{add-one}
+use native.Mathlib.Omega.{arith}
+use lib.ListN.{length, getD, drop}
+use lib.Seq.{drop-cons}
+use Rattle.lists.specs.Tab.{pick}
+use Rattle.lists.specs.First.{firstWhere, joined, firstThrough}
+
+module _ (p : ℕ → Bool) where
+  -- ---- what it says of the places
+
+  -- it is at most the length
+  pub first-within : (xs : List ℕ) → firstWhere p xs ≤ length xs
+  unfolding firstWhere
+  first-within [] = omega arith
+  first-within (x ∷ xs) = by (p x) (first-within xs)
+    where
+      by : (b : Bool) → firstWhere p xs ≤ length xs → pick b 0 (suc (firstWhere p xs)) ≤ suc (length xs)
+      by true h = omega arith
+      by false h = omega arith
+
+  -- at no place before it does the test hold
+  pub first-before : (xs : List ℕ) (i : ℕ) → i < firstWhere p xs → p (getD xs i 0) ≡ false
+  unfolding firstWhere
+  first-before [] i h = absurd (omega arith)
+  first-before (x ∷ xs) i h = by (p x) refl i h (first-before xs)
+    where
+      by : (b : Bool) → p x ≡ b → (i : ℕ) → i < pick b 0 (suc (firstWhere p xs))
+          → ((k : ℕ) → k < firstWhere p xs → p (getD xs k 0) ≡ false) → p (getD (x ∷ xs) i 0) ≡ false
+      by true e i h r = absurd (omega arith)
+      by false e zero h r = e
+      by false e (suc i) h r = r i (omega arith)
+
+  -- where it is a place, the test holds there
+  pub first-holds : (xs : List ℕ) → firstWhere p xs < length xs → p (getD xs (firstWhere p xs) 0) ≡ true
+  unfolding firstWhere
+  first-holds [] h = absurd (omega arith)
+  first-holds (x ∷ xs) h = by (p x) refl h (first-holds xs)
+    where
+      by : (b : Bool) → p x ≡ b → pick b 0 (suc (firstWhere p xs)) < suc (length xs)
+          → (firstWhere p xs < length xs → p (getD xs (firstWhere p xs) 0) ≡ true) → p (getD (x ∷ xs) (pick b 0 (suc (firstWhere p xs))) 0) ≡ true
+      by true e h r = e
+      by false e h r = r (omega arith)
+
+  -- ---- the turns of a loop at the place i, and its end
+
+  pub first-more : (xs : List ℕ) (i : ℕ) → i < length xs → p (getD xs i 0) ≡ false
+      → firstWhere p (drop i xs) ≡ suc (firstWhere p (drop (i + 1) xs))
+  unfolding firstWhere
+  first-more xs i h e = rw (add-one, drop-cons xs i 0) (simp e)
+
+  pub first-here : (xs : List ℕ) (i : ℕ) → i < length xs → p (getD xs i 0) ≡ true → firstWhere p (drop i xs) ≡ 0
+  unfolding firstWhere
+  first-here xs i h e = rw (drop-cons xs i 0) (simp e)
+
+  pub first-none : firstWhere p [] ≡ 0
+  unfolding firstWhere
+  first-none = refl
+
+  -- ---- through several lists
+
+  append-here : (xs ys : List ℕ) → firstWhere p xs < length xs → firstWhere p (xs ++ ys) ≡ firstWhere p xs
+  unfolding firstWhere
+  append-here [] ys h = absurd (omega arith)
+  append-here (x ∷ xs) ys h = by (p x) h (append-here xs ys)
+    where
+      by : (b : Bool) → pick b 0 (suc (firstWhere p xs)) < suc (length xs)
+          → (firstWhere p xs < length xs → firstWhere p (xs ++ ys) ≡ firstWhere p xs)
+          → pick b 0 (suc (firstWhere p (xs ++ ys))) ≡ pick b 0 (suc (firstWhere p xs))
+      by true h r = refl
+      by false h r = ap suc (r (omega arith))
+
+  append-past : (xs ys : List ℕ) → length xs ≤ firstWhere p xs → firstWhere p (xs ++ ys) ≡ length xs + firstWhere p ys
+  unfolding firstWhere
+  append-past [] ys h = omega arith
+  append-past (x ∷ xs) ys h = by (p x) h (append-past xs ys)
+    where
+      by : (b : Bool) → suc (length xs) ≤ pick b 0 (suc (firstWhere p xs))
+          → (length xs ≤ firstWhere p xs → firstWhere p (xs ++ ys) ≡ length xs + firstWhere p ys)
+          → pick b 0 (suc (firstWhere p (xs ++ ys))) ≡ suc (length xs) + firstWhere p ys
+      by true h r = absurd (omega arith)
+      by false h r = omega (arith, r (omega arith))
+
+  -- the first list has it: its place there
+  pub through-here : (l : List ℕ) (ls : List (List ℕ)) → firstWhere p l < length l → firstThrough p (l ∷ ls) ≡ firstWhere p l
+  unfolding firstThrough joined
+  through-here l ls h = append-here l (joined ls) h
+
+  -- the first list hasn't: its length, and then the count goes on
+  pub through-past : (l : List ℕ) (ls : List (List ℕ)) → length l ≤ firstWhere p l → firstThrough p (l ∷ ls) ≡ length l + firstThrough p ls
+  unfolding firstThrough joined
+  through-past l ls h = append-past l (joined ls) h
+
+  pub through-none : firstThrough p [] ≡ 0
+  unfolding firstThrough joined firstWhere
+  through-none = refl

@@ -1,0 +1,4 @@
+pub mod TabLaws
+pub mod Fill
+pub mod FirstLaws
+pub mod Every

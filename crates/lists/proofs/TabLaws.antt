@@ -1,0 +1,37 @@
+-- The laws of tables: length, element, and that a list with the elements f 0, f 1, .. is the table of f.
+-- Assumes nothing.
+use mathlib.Core.Path.{_≡_, refl, sym, ap, _∙_, subst}
+use mathlib.Core.List.{List, [], _∷_}
+use Prim.Native.Nat.{ℕ, zero, suc, _+_, _<_}
+use native.Mathlib.Nat.{not-suc-le-zero, le-of-suc-le-suc}
+use native.Mathlib.Omega.{arith}
+use lib.ListN.{length, getD}
+use lib.Seq.{ext-getD}
+use Rattle.lists.specs.Tab.{tab}
+
+module _ {A : Type 0} where
+  pub length-tab : (n : ℕ) (f : ℕ → A) → length (tab n f) ≡ n
+  unfolding tab
+  length-tab zero f = refl
+  length-tab (suc n) f = ap suc (length-tab n (λ i. f (suc i)))
+
+  pub getD-tab : (n : ℕ) (f : ℕ → A) (i : ℕ) (d : A) → i < n → getD (tab n f) i d ≡ f i
+  unfolding tab
+  getD-tab zero f i d h = absurd (not-suc-le-zero h)
+  getD-tab (suc n) f zero d h = refl
+  getD-tab (suc n) f (suc i) d h = getD-tab n (λ k. f (suc k)) i d (le-of-suc-le-suc h)
+
+  -- a list of n elements, f 0, f 1, .., is the table of f
+  pub tab-of : (d : A) (n : ℕ) (f : ℕ → A) (l : List A) → length l ≡ n → ((i : ℕ) → i < n → getD l i d ≡ f i) → l ≡ tab n f
+  tab-of d n f l e all =
+      ext-getD d l (tab n f) (e ∙ sym (length-tab n f)) (λ i h. same i (subst (λ (m : ℕ). i < m) e h))
+    where
+      same : (i : ℕ) → i < n → getD l i d ≡ getD (tab n f) i d
+      same i h = all i h ∙ sym (getD-tab n f i d h)
+
+  -- two functions that agree below n have the same table
+  pub tab-cong : (n : ℕ) {f g : ℕ → A} → ((i : ℕ) → i < n → f i ≡ g i) → tab n f ≡ tab n g
+  unfolding tab
+  tab-cong zero e = refl
+  tab-cong (suc n) {f} {g} e =
+      ap (λ x. x ∷ tab n (λ i. f (suc i))) (e 0 (omega arith)) ∙ ap (λ l. g 0 ∷ l) (tab-cong n (λ i h. e (suc i) (omega arith)))

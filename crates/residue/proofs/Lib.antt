@@ -1,0 +1,9 @@
+pub mod Mod
+pub mod FieldLaws
+pub mod PowerLaws
+pub mod Inverse
+pub mod Order
+pub mod TableLaws
+pub mod SignedLaws
+pub mod Machine
+pub mod Product

@@ -1,0 +1,42 @@
+-- The arithmetic of residues: numbers below q = 3457, a prime. The suffix q says "modulo q".
+-- Assumes nothing: these are definitions.
+use mathlib.Core.Path.{_≡_}
+use mathlib.Core.List.{List}
+use Prim.Native.Nat.{ℕ, _+_, _*_, _-_, _^_, _%_, _<_}
+use lib.ListN.{length, getD}
+
+abbrev pub q : ℕ
+q = 3457
+
+-- what `Residue::ONE` and `Residue::GENERATOR` hold
+abbrev pub one : ℕ
+one = 1
+
+abbrev pub generator : ℕ
+generator = 7
+
+unfoldable pub addq : ℕ → ℕ → ℕ
+addq a b = (a + b) % q
+
+-- what a has to be added to for 0
+unfoldable pub negq : ℕ → ℕ
+negq a = (q - a % q) % q
+
+unfoldable pub subq : ℕ → ℕ → ℕ
+subq a b = addq a (negq b)
+
+unfoldable pub mulq : ℕ → ℕ → ℕ
+mulq a b = (a * b) % q
+
+-- anything to the power 0 is 1
+unfoldable pub powq : ℕ → ℕ → ℕ
+powq a n = (a ^ n) % q
+
+-- by Fermat; 0 at 0, where it is no inverse
+unfoldable pub invq : ℕ → ℕ
+invq a = powq a (q - 2)
+
+-- n residues
+pub record Residues (n : ℕ) (l : List ℕ) : Type 0 where
+  pub long : length l ≡ n
+  pub low : (i : ℕ) → i < n → getD l i 0 < q
