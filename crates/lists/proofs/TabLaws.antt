@@ -1,7 +1,7 @@
 -- The laws of tables: length, element, and that a list with the elements f 0, f 1, .. is the table of f.
 -- Assumes nothing.
 use mathlib.Core.Path.{_≡_, refl, sym, ap, _∙_, subst}
-use mathlib.Core.List.{List, [], _∷_}
+use mathlib.Core.List.{List, [], _∷_, map}
 use Prim.Native.Nat.{ℕ, zero, suc, _+_, _<_}
 use native.Mathlib.Nat.{not-suc-le-zero, le-of-suc-le-suc}
 use native.Mathlib.Omega.{arith}
@@ -35,3 +35,9 @@ module _ {A : Type 0} where
   tab-cong zero e = refl
   tab-cong (suc n) {f} {g} e =
       ap (λ x. x ∷ tab n (λ i. f (suc i))) (e 0 (omega arith)) ∙ ap (λ l. g 0 ∷ l) (tab-cong n (λ i h. e (suc i) (omega arith)))
+
+-- a table mapped
+pub map-tab : {A B : Type 0} (g : A → B) (n : ℕ) (f : ℕ → A) → map g (tab n f) ≡ tab n (λ i. g (f i))
+unfolding tab
+map-tab g zero f = refl
+map-tab g (suc n) f = ap (λ l. g (f 0) ∷ l) (map-tab g n (λ i. f (suc i)))

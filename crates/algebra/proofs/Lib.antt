@@ -1,0 +1,14 @@
+pub mod Ring
+pub mod Sum
+pub mod Map
+pub mod Value
+pub mod Sixth
+pub mod Exponent
+pub mod Root
+pub mod Image
+pub mod ReverseImage
+pub mod ImageReverse
+pub mod Field
+pub mod Sets
+pub mod Lists
+pub mod Theorems

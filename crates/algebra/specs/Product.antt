@@ -1,0 +1,29 @@
+-- "The product is the schoolbook product with x^n = x^(n/2) - 1, and so x^(3n/2) = -1": one definition for residues and for whole
+-- numbers, over n = 2h. A ring element is a list of n numbers, place i standing at x^i. Assumes nothing: these are definitions.
+use Prim.Native.Nat.{ℕ, suc, _+_, _-_}
+use mathlib.Core.List.{List}
+use lib.Dec.{ltb}
+use lib.ListN.{getD}
+use Rattle.lists.specs.Tab.{pick, tab}
+use Rattle.residue.specs.Field.{mulq}
+use Rattle.algebra.specs.Numbers.{Numbers, sum}
+
+-- coefficient i, 0 past the end
+abbrev pub coefficient : (N : Numbers) → List (N .C) → ℕ → N .C
+coefficient N a i = getD a i (N .nil)
+
+-- schoolbook: at x^m stands a_0 b_m + a_1 b_(m-1) + .. + a_m b_0
+unfoldable pub schoolbook : (N : Numbers) → (ℕ → N .C) → (ℕ → N .C) → ℕ → N .C
+schoolbook N a b m = sum N (suc m) (λ i. N .mul (a i) (b (m - i)))
+
+-- x^(n + i) = x^(h + i) - x^i and x^(3h + i) = -x^i for i < h: what stands at x^i below h, and from h on
+unfoldable pub fold : (N : Numbers) → ℕ → (ℕ → N .C) → ℕ → N .C
+fold N h c i =
+    pick (ltb i h) (N .sub (c i) (N .add (c (h + h + i)) (c (h + h + (h + i))))) (N .add (c i) (c (h + i)))
+
+unfoldable pub product : (N : Numbers) → ℕ → List (N .C) → List (N .C) → List (N .C)
+product N h a b = tab (h + h) (fold N h (schoolbook N (coefficient N a) (coefficient N b)))
+
+-- slot by slot
+unfoldable pub times : ℕ → List ℕ → List ℕ → List ℕ
+times n a b = tab n (λ k. mulq (getD a k 0) (getD b k 0))
