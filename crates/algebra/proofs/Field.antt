@@ -89,6 +89,9 @@ pub ι-neg : ι 3456 ≡ ν
 unfolding F ι
 ι-neg = same refl
 
+pub ι-negq : (x : ℕ) → ι (negq x) ≡ ν ⊗ ι x
+ι-negq x = ap ι (Q.negq-mulq x) ∙ ι-keeps .mul 3456 x ∙ ap (λ r. r ⊗ ι x) ι-neg
+
 pub ι-powq : (x n : ℕ) → ι (powq x n) ≡ pow F (ι x) n
 ι-powq x zero = ap ι (powq-zero x) ∙ ι-one ∙ sym (pow-zero F (ι x))
 ι-powq x (suc n) =

@@ -1,6 +1,7 @@
 pub mod Ring
 pub mod Sum
 pub mod Map
+pub mod Halves
 pub mod Value
 pub mod Sixth
 pub mod Exponent
@@ -12,3 +13,4 @@ pub mod Field
 pub mod Sets
 pub mod Lists
 pub mod Theorems
+pub mod Monomials

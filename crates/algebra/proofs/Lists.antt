@@ -1,16 +1,15 @@
 -- The definitions on lists of residues, place by place, are those of the ring: ι takes the one to the other.
 -- Assumes nothing.
 use mathlib.Core.Path.{_≡_, sym, ap, ap₂, _∙_, subst}
-use mathlib.Core.Bool.{Bool, true, false}
 use mathlib.Core.List.{List}
 use Prim.Native.Nat.{ℕ, zero, suc, _+_, _*_, _<_}
 use native.Mathlib.Omega.{arith}
 use lib.Dec.{ltb, lit<}
 use lib.ListN.{length, getD, List·getD-eq-default}
 use lib.Seq.{ext-getD}
-use Rattle.lists.specs.Tab.{pick, tab}
-use Rattle.lists.proofs.TabLaws.{length-tab, getD-tab}
-use Rattle.residue.specs.Field.{q, Residues, addq, subq, mulq, powq, invq}
+use Rattle.lists.specs.Tab.{tab}
+use Rattle.lists.proofs.TabLaws.{length-tab, getD-tab, pick-both}
+use Rattle.residue.specs.Field.{q, Residues, powq, invq}
 use Rattle.residue.proofs.FieldLaws.{addq-lt, subq-lt, mulq-lt}
 use Rattle.algebra.specs.Numbers.{Numbers, residues, sum}
 use Rattle.algebra.specs.Product.{schoolbook, fold, product, times}
@@ -34,7 +33,7 @@ coeffs l i = ι (getD l i 0)
 pub tab-residues : (n : ℕ) (f : ℕ → ℕ) → ((i : ℕ) → f i < q) → Residues n (tab n f)
 tab-residues n f low = record { long = length-tab n f; low = λ i h. subst (λ x. x < q) (sym (getD-tab n f i 0 h)) (low i) }
 
-coeffs-tab : (n : ℕ) (f : ℕ → ℕ) (i : ℕ) → i < n → coeffs (tab n f) i ≡ ι (f i)
+pub coeffs-tab : (n : ℕ) (f : ℕ → ℕ) (i : ℕ) → i < n → coeffs (tab n f) i ≡ ι (f i)
 coeffs-tab n f i h = ap ι (getD-tab n f i 0 h)
 
 pub coeffs-short : {n : ℕ} {l : List ℕ} → Residues n l → Short F n (coeffs l)
@@ -52,11 +51,7 @@ residues-ext {n} {k} {l} rk rl e =
 
 fold-lt : (h : ℕ) (c : ℕ → ℕ) (i : ℕ) → fold residues h c i < q
 unfolding fold
-fold-lt h c i = by (ltb i h)
-  where
-    by : (t : Bool) → pick t (subq (c i) (addq (c (h + h + i)) (c (h + h + (h + i))))) (addq (c i) (c (h + i))) < q
-    by true = subq-lt (c i) _
-    by false = addq-lt (c i) _
+fold-lt h c i = pick-both (λ x. x < q) (ltb i h) (search (addq-lt, subq-lt)) (search (addq-lt, subq-lt))
 
 sum-lt : (n : ℕ) (f : ℕ → ℕ) → sum residues n f < q
 unfolding sum

@@ -1,13 +1,11 @@
 -- A map of numbers that keeps 0, sums, differences and products keeps sums of many terms and products of polynomials.
 -- Assumes nothing.
-use mathlib.Core.Path.{_≡_, refl, sym, ap, ap₂, _∙_}
-use mathlib.Core.Bool.{Bool, true, false}
+use mathlib.Core.Path.{_≡_, sym, ap, ap₂, _∙_}
 use mathlib.Core.List.{List, map}
 use Prim.Native.Nat.{ℕ, zero, suc, _+_, _-_}
 use lib.Dec.{ltb}
 use lib.ListN.{getD, List·getD-map}
-use Rattle.lists.specs.Tab.{pick}
-use Rattle.lists.proofs.TabLaws.{tab-cong, map-tab}
+use Rattle.lists.proofs.TabLaws.{tab-cong, map-tab, map-pick}
 use Rattle.algebra.specs.Numbers.{Numbers, sum}
 use Rattle.algebra.specs.Product.{coefficient, schoolbook, fold, product}
 use Rattle.algebra.proofs.Sum.{sum-zero, sum-suc, sum-cong}
@@ -30,13 +28,7 @@ module _ (N M : Numbers) (φ : N .C → M .C) (keeps : Map N M φ) where
 
   pub map-fold : (h : ℕ) (c : ℕ → N .C) (i : ℕ) → φ (fold N h c i) ≡ fold M h (λ m. φ (c m)) i
   unfolding fold
-  map-fold h c i = by (ltb i h)
-    where
-      by : (t : Bool)
-          → φ (pick t (N .sub (c i) (N .add (c (h + h + i)) (c (h + h + (h + i))))) (N .add (c i) (c (h + i))))
-          ≡ pick t (M .sub (φ (c i)) (M .add (φ (c (h + h + i))) (φ (c (h + h + (h + i)))))) (M .add (φ (c i)) (φ (c (h + i))))
-      by true = keeps .sub _ _ ∙ ap (M .sub (φ (c i))) (keeps .add _ _)
-      by false = keeps .add _ _
+  map-fold h c i = map-pick φ (ltb i h) _ _ ∙ simp (keeps .add, keeps .sub)
 
   map-coefficient : (a : List (N .C)) (i : ℕ) → φ (coefficient N a i) ≡ coefficient M (map φ a) i
   map-coefficient a i = sym (List·getD-map φ a i (N .nil)) ∙ ap (getD (map φ a) i) (keeps .nil)

@@ -1,15 +1,13 @@
 -- The reverse of the image is the polynomial: the slot sums of an image hold each coefficient h times twice over, and its partner h times.
 -- Assumes nothing.
 use mathlib.Core.Path.{_≡_, sym, ap, ap₂, _∙_}
-use Prim.Native.Nat.{ℕ, _+_, _-_, _<_}
-use native.Mathlib.Decide.{decLt}
-use native.Mathlib.Nat as N
-use native.Mathlib.Omega.{arith}
+use Prim.Native.Nat.{ℕ, _+_, _<_}
 use Rattle.algebra.specs.Numbers.{Numbers, sum}
 use Rattle.algebra.specs.Transform.{exponent}
 use Rattle.algebra.proofs.Ring.{Ring, ring, units, pow, add-comm, mul-assoc, mul-left-comm, mul-mul-comm, mul-one, one-mul, sub-of, mul-pow, one-pow, pow-add, pow-comm}
 use Rattle.algebra.proofs.Sum.{sum-cong, sum-mul, sum-mul-right, sum-swap, sum-halves, sum-single}
 use Rattle.algebra.proofs.Sixth.{sixth-six}
+use Rattle.algebra.proofs.Halves.{halves}
 use Rattle.algebra.proofs.Value.{valueIn}
 use Rattle.algebra.proofs.Root.{Root, slotPowers, half, slotPowers-one, slotPowers-sixth, slotPowers-nil, three-halves, undo, sixth-u}
 use Rattle.algebra.proofs.Image.{imageIn, slotSumIn, mix, mix-is, reverseIn, reverse-low, reverse-high}
@@ -76,17 +74,9 @@ module _ (R : Ring) (h : ℕ) (w u c : R .num .C) (ω : Root R h w u c) where
       mix-is R c _ _ ∙ ap (λ t. c ⊗ t) (sub-of R _ _ (x ⊗ (H ⊕ H ⊕ H)) (simp ring))
       ∙ mul-left-comm R c x (H ⊕ H ⊕ H) ∙ ap (λ t. x ⊗ (c ⊗ t)) (sym (three-halves R h)) ∙ rw (third, mul-one)
 
-  low : (a : ℕ → C) (j : ℕ) → j < h → reverseIn R h u c (imageIn R h w a) j ≡ a j
-  low a j l = reverse-low R h u c _ j l ∙ rw (slotSum-low a j l, slotSum-high a j l) (three-times (a j) (a (h + j)))
-
-  high : (a : ℕ → C) (j : ℕ) → j < h → reverseIn R h u c (imageIn R h w a) (h + j) ≡ a (h + j)
-  high a j l =
-      reverse-high R h u c _ j
-      ∙ rw (slotSum-low a j l, slotSum-high a j l, add-comm R (a j ⊗ H), add-comm R (a j ⊗ (H ⊕ H))) (three-times (a (h + j)) (a j))
-
   pub reverse-image : (a : ℕ → C) (j : ℕ) → j < h + h → reverseIn R h u c (imageIn R h w a) j ≡ a j
-  reverse-image a j l = by (decLt j h)
-    where
-      by : Dec (j < h) → reverseIn R h u c (imageIn R h w a) j ≡ a j
-      by (yes k) = low a j k
-      by (no k) = rw (sym (N.add-sub-of-le {n = j} {m = h} (omega arith))) (high a (j - h) (omega arith))
+  reverse-image a =
+      halves h (λ j. reverseIn R h u c (imageIn R h w a) j ≡ a j)
+      (λ j l. reverse-low R h u c _ j l ∙ rw (slotSum-low a j l, slotSum-high a j l) (three-times (a j) (a (h + j))))
+      (λ j l. reverse-high R h u c _ j
+      ∙ rw (slotSum-low a j l, slotSum-high a j l, add-comm R (a j ⊗ H), add-comm R (a j ⊗ (H ⊕ H))) (three-times (a (h + j)) (a j)))

@@ -2,7 +2,7 @@
 -- numbers, over n = 2h. A ring element is a list of n numbers, place i standing at x^i. Assumes nothing: these are definitions.
 use Prim.Native.Nat.{ℕ, suc, _+_, _-_}
 use mathlib.Core.List.{List}
-use lib.Dec.{ltb}
+use lib.Dec.{eqb, ltb}
 use lib.ListN.{getD}
 use Rattle.lists.specs.Tab.{pick, tab}
 use Rattle.residue.specs.Field.{mulq}
@@ -16,13 +16,18 @@ coefficient N a i = getD a i (N .nil)
 unfoldable pub schoolbook : (N : Numbers) → (ℕ → N .C) → (ℕ → N .C) → ℕ → N .C
 schoolbook N a b m = sum N (suc m) (λ i. N .mul (a i) (b (m - i)))
 
--- x^(n + i) = x^(h + i) - x^i and x^(3h + i) = -x^i for i < h: what stands at x^i below h, and from h on
+-- folded by x^(n + i) = x^(h + i) - x^i and x^(3h + i) = -x^i, for i < h:
+-- at x^i below x^h stand c_i - c_(n + i) - c_(3h + i), from x^h on c_i + c_(h + i)
 unfoldable pub fold : (N : Numbers) → ℕ → (ℕ → N .C) → ℕ → N .C
 fold N h c i =
     pick (ltb i h) (N .sub (c i) (N .add (c (h + h + i)) (c (h + h + (h + i))))) (N .add (c i) (c (h + i)))
 
 unfoldable pub product : (N : Numbers) → ℕ → List (N .C) → List (N .C) → List (N .C)
 product N h a b = tab (h + h) (fold N h (schoolbook N (coefficient N a) (coefficient N b)))
+
+-- x^i
+unfoldable pub monomial : ℕ → ℕ → List ℕ
+monomial n i = tab n (λ k. pick (eqb k i) 1 0)
 
 -- slot by slot
 unfoldable pub times : ℕ → List ℕ → List ℕ → List ℕ

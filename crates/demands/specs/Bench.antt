@@ -1,0 +1,19 @@
+-- Document 01's bench values marked P, as one table of the definitions: a row is an equation.
+-- Assumes nothing: this is a definition.
+use mathlib.Core.Path.{_≡_}
+use lib.IntN.{pos, negsuc}
+use Rattle.residue.specs.Field.{generator, powq, invq}
+use Rattle.residue.specs.Signed.{centredByThree}
+
+pub record BenchValues : Type 0 where
+  -- P5 inverse of 2 is 1729, of 3 is 2305
+  pub p5-two : invq 2 ≡ 1729
+  pub p5-three : invq 3 ≡ 2305
+  -- P6 7^1152 = 722 and 7^1728 = 3456
+  pub p6-third : powq generator 1152 ≡ 722
+  pub p6-half : powq generator 1728 ≡ 3456
+  -- P7 residue to -1, 0, 1: 1727 gives -1, 1728 gives 0, 1729 gives 0, 1730 gives 1
+  pub p7-1727 : centredByThree 1727 ≡ negsuc 0
+  pub p7-1728 : centredByThree 1728 ≡ pos 0
+  pub p7-1729 : centredByThree 1729 ≡ pos 0
+  pub p7-1730 : centredByThree 1730 ≡ pos 1
