@@ -1,6 +1,6 @@
 -- The transform in a ring: image, slot sums and reverse of n = 2h coefficients, and the image of a product.
 -- Assumes nothing.
-use mathlib.Core.Path.{_≡_, sym, ap, _∙_}
+use mathlib.Core.Path.{_≡_, ap, _∙_}
 use Prim.Native.Nat.{ℕ, suc, _+_, _<_}
 use native.Mathlib.Nat as N
 use native.Mathlib.Omega.{arith}

@@ -5,16 +5,16 @@ use mathlib.Core.List.{List}
 use Prim.Native.Nat.{ℕ, zero, suc, _+_, _*_, _<_}
 use native.Mathlib.Omega.{arith}
 use lib.Dec.{ltb, lit<}
-use lib.ListN.{length, getD, List·getD-eq-default}
+use lib.ListN.{getD, List·getD-eq-default}
 use lib.Seq.{ext-getD}
 use Rattle.lists.specs.Tab.{tab}
 use Rattle.lists.proofs.TabLaws.{length-tab, getD-tab, pick-both}
 use Rattle.residue.specs.Field.{q, Residues, powq, invq}
 use Rattle.residue.proofs.FieldLaws.{addq-lt, subq-lt, mulq-lt}
 use Rattle.algebra.specs.Numbers.{Numbers, residues, sum}
-use Rattle.algebra.specs.Product.{schoolbook, fold, product, times}
+use Rattle.algebra.specs.Product.{schoolbook, foldLow, foldHigh, fold, product, times}
 use Rattle.algebra.specs.Transform.{exponent, value, image, slotSum, partner, reverse}
-use Rattle.algebra.proofs.Ring.{Ring, pow, pow-mul}
+use Rattle.algebra.proofs.Ring.{Ring, pow-mul}
 use Rattle.algebra.proofs.Sum.{sum-cong}
 use Rattle.algebra.proofs.Map.{map-sum, map-folded}
 use Rattle.algebra.proofs.Value.{valueIn, Short}
@@ -50,8 +50,8 @@ residues-ext {n} {k} {l} rk rl e =
 -- ---- every result is a list of residues
 
 fold-lt : (h : ℕ) (c : ℕ → ℕ) (i : ℕ) → fold residues h c i < q
-unfolding fold
-fold-lt h c i = pick-both (λ x. x < q) (ltb i h) (search (addq-lt, subq-lt)) (search (addq-lt, subq-lt))
+unfolding fold foldLow foldHigh
+fold-lt h c i = pick-both (λ x. x < q) (ltb i h) (subq-lt _ _) (addq-lt _ _)
 
 sum-lt : (n : ℕ) (f : ℕ → ℕ) → sum residues n f < q
 unfolding sum

@@ -15,7 +15,7 @@ use Rattle.lists.proofs.TabLaws.{getD-tab, map-pick, pick-both}
 use Rattle.residue.specs.Field.{q, Residues, negq, subq}
 use Rattle.residue.proofs.FieldLaws.{negq-lt, subq-lt}
 use Rattle.algebra.specs.Numbers.{Numbers, residues}
-use Rattle.algebra.specs.Product.{schoolbook, fold, product, monomial}
+use Rattle.algebra.specs.Product.{schoolbook, foldLow, foldHigh, fold, product, monomial}
 use Rattle.algebra.proofs.Ring.{Ring, units, add-nil, nil-add, one-mul, mul-nil, nil-mul, sub-is}
 use Rattle.algebra.proofs.Sum.{sum-single, sum-nil}
 use Rattle.algebra.proofs.Halves.{halves}
@@ -60,34 +60,42 @@ module _ (R : Ring) where
       by (no l) =
           sum-nil R (suc m) _ (λ t h. rw (single-off i t (omega arith), nil-mul)) ∙ sym (single-off (i + j) m (omega arith))
 
+  low-is : (h : ℕ) (c : ℕ → C) (i : ℕ) → i < h → fold num h c i ≡ c i ⊕ ν ⊗ (c (h + h + i) ⊕ c (h + h + (h + i)))
+  unfolding foldLow
+  low-is h c i l = fold-low R h c i l ∙ sub-is R _ _
+
+  high-is : (h : ℕ) (c : ℕ → C) (i : ℕ) → fold num h c (h + i) ≡ c (h + i) ⊕ c (h + h + i)
+  unfolding foldHigh
+  high-is h c i = fold-high R h c i
+
   module _ (h : ℕ) where
     -- below x^n nothing is folded
     pub fold-below : (s : ℕ) → s < h + h → (k : ℕ) → k < h + h → fold num h (single s) k ≡ single s k
     fold-below s l =
         halves h (λ k. fold num h (single s) k ≡ single s k)
-        (λ j b. fold-low R h _ j b
+        (λ j b. low-is h _ j b
         ∙ rw (single-off s (h + h + j) (omega arith), single-off s (h + h + (h + j)) (omega arith)) (simp units))
-        (λ j b. fold-high R h _ j ∙ rw (single-off s (h + h + j) (omega arith), add-nil))
+        (λ j b. high-is h _ j ∙ rw (single-off s (h + h + j) (omega arith), add-nil))
 
     -- x^(n + i) = x^(h + i) - x^i
     pub fold-middle : (i : ℕ) → i < h → (k : ℕ) → k < h + h
         → fold num h (single (h + h + i)) k ≡ num .sub (single (h + i) k) (single i k)
     fold-middle i l =
         halves h (λ k. fold num h (single (h + h + i)) k ≡ num .sub (single (h + i) k) (single i k))
-        (λ j b. fold-low R h _ j b
+        (λ j b. low-is h _ j b
         ∙ rw (single-off (h + h + i) j (omega arith), single-shift (h + h) i j, single-off (h + h + i) (h + h + (h + j)) (omega arith), add-nil)
         (sym (sub-is R _ _ ∙ rw (single-off (h + i) j (omega arith)))))
-        (λ j b. fold-high R h _ j ∙ rw (single-off (h + h + i) (h + j) (omega arith), single-shift (h + h) i j, nil-add)
+        (λ j b. high-is h _ j ∙ rw (single-off (h + h + i) (h + j) (omega arith), single-shift (h + h) i j, nil-add)
         (sym (sub-is R _ _ ∙ rw (single-shift h i j, single-off i (h + j) (omega arith), mul-nil, add-nil))))
 
     -- x^(3h + i) = -x^i
     pub fold-top : (i : ℕ) → i < h → (k : ℕ) → k < h + h → fold num h (single (h + h + (h + i))) k ≡ ν ⊗ single i k
     fold-top i l =
         halves h (λ k. fold num h (single (h + h + (h + i))) k ≡ ν ⊗ single i k)
-        (λ j b. fold-low R h _ j b
+        (λ j b. low-is h _ j b
         ∙ rw (single-off (h + h + (h + i)) j (omega arith), single-off (h + h + (h + i)) (h + h + j) (omega arith), single-shift (h + h) (h + i) (h + j), single-shift h i j)
         (simp units))
-        (λ j b. fold-high R h _ j
+        (λ j b. high-is h _ j
         ∙ rw (single-off (h + h + (h + i)) (h + j) (omega arith), single-off (h + h + (h + i)) (h + h + j) (omega arith), single-off i (h + j) (omega arith))
         (simp units))
 

@@ -7,7 +7,7 @@ use native.Mathlib.Nat as N
 use native.Mathlib.Omega.{arith}
 use borrow.Author.Tests.{le-ltb, lt-ltb}
 use Rattle.algebra.specs.Numbers.{Numbers, sum}
-use Rattle.algebra.specs.Product.{schoolbook, fold}
+use Rattle.algebra.specs.Product.{schoolbook, foldLow, foldHigh, fold}
 use Rattle.algebra.proofs.Ring.{Ring, ring, pow, pow-add, mul-assoc, nil-mul, add-mul, add-right-comm, minus, nil-add, sub-is}
 use Rattle.algebra.proofs.Sum.{sum-cong, sum-add, sum-mul, sum-mul-right, sum-past, sum-split, sum-halves, sum-diagonals}
 
@@ -48,13 +48,13 @@ module _ (R : Ring) where
 
   -- ---- folding
 
-  pub fold-low : (h : ℕ) (c : ℕ → C) (i : ℕ) → i < h → fold num h c i ≡ c i ⊕ ν ⊗ (c (h + h + i) ⊕ c (h + h + (h + i)))
+  pub fold-low : (h : ℕ) (c : ℕ → C) (i : ℕ) → i < h → fold num h c i ≡ foldLow num h c i
   unfolding fold
-  fold-low h c i l = simp (lt-ltb i h l) (sub-is R _ _)
+  fold-low h c i l = rw (lt-ltb i h l)
 
-  pub fold-high : (h : ℕ) (c : ℕ → C) (i : ℕ) → fold num h c (h + i) ≡ c (h + i) ⊕ c (h + h + i)
+  pub fold-high : (h : ℕ) (c : ℕ → C) (i : ℕ) → fold num h c (h + i) ≡ foldHigh num h c i
   unfolding fold
-  fold-high h c i = simp (le-ltb (h + i) h (omega arith), N.add-assoc)
+  fold-high h c i = rw (le-ltb (h + i) h (omega arith), N.add-sub-cancel-left)
 
   module _ (h : ℕ) (z : C) (root : pow R z h ⊗ pow R z h ≡ pow R z h ⊕ ν) where
     -- z^3h = -1
@@ -63,7 +63,7 @@ module _ (R : Ring) where
         rw (← mul-assoc R (pow R z h ⊕ ν) (pow R z h) p, add-mul, root, add-right-comm R (pow R z h) ν (ν ⊗ pow R z h), minus, nil-add)
 
     pub fold-value : (c : ℕ → C) → valueIn (h + h) (fold num h c) z ≡ valueIn (h + h + (h + h)) c z
-    unfolding valueIn
+    unfolding valueIn foldLow foldHigh
     fold-value c =
         sum-halves R h _ ∙ sum-cong num h (λ i l. term i l) ∙ sum-add R h _ _
         ∙ sym (sum-split R (h + h) (h + h) _ ∙ ap₂ _⊕_ (sum-halves R h _) (sum-halves R h _))
@@ -71,7 +71,7 @@ module _ (R : Ring) where
         term : (i : ℕ) → i < h → fold num h c i ⊗ pow R z i ⊕ fold num h c (h + i) ⊗ pow R z (h + i)
             ≡ c i ⊗ pow R z i ⊕ c (h + i) ⊗ pow R z (h + i)
             ⊕ (c (h + h + i) ⊗ pow R z (h + h + i) ⊕ c (h + h + (h + i)) ⊗ pow R z (h + h + (h + i)))
-        term i l = rw (fold-low h c i l, fold-high h c i) (simp (pow-add, root) (rw cube (simp ring)))
+        term i l = rw (fold-low h c i l, fold-high h c i) (simp (foldLow, foldHigh, sub-is R, pow-add, root, cube) (simp ring))
 
     -- the value of the folded product is the product of the values
     pub product-value : (a b : ℕ → C) → Short (h + h) a → Short (h + h) b

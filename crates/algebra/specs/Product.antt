@@ -16,11 +16,16 @@ coefficient N a i = getD a i (N .nil)
 unfoldable pub schoolbook : (N : Numbers) → (ℕ → N .C) → (ℕ → N .C) → ℕ → N .C
 schoolbook N a b m = sum N (suc m) (λ i. N .mul (a i) (b (m - i)))
 
--- folded by x^(n + i) = x^(h + i) - x^i and x^(3h + i) = -x^i, for i < h:
--- at x^i below x^h stand c_i - c_(n + i) - c_(3h + i), from x^h on c_i + c_(h + i)
+-- folded, at x^i below x^h: c_i - c_(n + i) - c_(3h + i), by x^(n + i) = x^(h + i) - x^i and x^(3h + i) = -x^i
+unfoldable pub foldLow : (N : Numbers) → ℕ → (ℕ → N .C) → ℕ → N .C
+foldLow N h c i = N .sub (c i) (N .add (c (h + h + i)) (c (h + h + (h + i))))
+
+-- folded, at x^(h + i): c_(h + i) + c_(n + i)
+unfoldable pub foldHigh : (N : Numbers) → ℕ → (ℕ → N .C) → ℕ → N .C
+foldHigh N h c i = N .add (c (h + i)) (c (h + h + i))
+
 unfoldable pub fold : (N : Numbers) → ℕ → (ℕ → N .C) → ℕ → N .C
-fold N h c i =
-    pick (ltb i h) (N .sub (c i) (N .add (c (h + h + i)) (c (h + h + (h + i))))) (N .add (c i) (c (h + i)))
+fold N h c i = pick (ltb i h) (foldLow N h c i) (foldHigh N h c (i - h))
 
 unfoldable pub product : (N : Numbers) → ℕ → List (N .C) → List (N .C) → List (N .C)
 product N h a b = tab (h + h) (fold N h (schoolbook N (coefficient N a) (coefficient N b)))

@@ -1,7 +1,7 @@
 -- The residues are a commutative ring, and every step's value is a residue.
 -- Assumes nothing.
 use mathlib.Core.Path.{_≡_, sym, ap, _∙_}
-use Prim.Native.Nat.{ℕ, _+_, _*_, _-_, _%_, _<_}
+use Prim.Native.Nat.{ℕ, _-_, _<_}
 use native.Mathlib.Nat.{mod-add-mod, add-mod-mod, mod-mod, add-comm, add-assoc, add-left-comm, mul-comm, mul-assoc, mul-left-comm, mul-add, add-mul}
 use native.Mathlib.Omega.{arith}
 use Rattle.residue.specs.Field.{q, addq, negq, subq, mulq, powq, invq}

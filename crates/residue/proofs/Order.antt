@@ -2,12 +2,12 @@
 -- Assumes nothing.
 use mathlib.Core.Path.{_≡_, refl, sym, ap, _∙_, subst}
 use mathlib.Core.Bool.{Bool, not}
-use Prim.Native.Nat.{ℕ, zero, suc, _+_, _*_, _-_, _/_, _%_, _^_, _<_, _≤_}
+use Prim.Native.Nat.{ℕ, zero, suc, _+_, _*_, _-_, _/_, _%_, _<_, _≤_}
 use native.Mathlib.Nat.{div-add-mod}
 use native.Mathlib.Omega.{arith}
 use lib.Dec.{T, eqb, T-not}
 use Rattle.lists.proofs.Every.{below, at-below}
-use Rattle.residue.specs.Field.{q, generator, mulq, powq}
+use Rattle.residue.specs.Field.{generator, mulq, powq}
 use Rattle.residue.proofs.FieldLaws.{one-mulq, powq-lt}
 use Rattle.residue.proofs.PowerLaws.{powq-add, powq-mul, one-powq}
 

@@ -1,8 +1,8 @@
 -- The laws of exponents, and the two steps by which a power is found from the power of half the exponent.
 -- Assumes nothing.
 use mathlib.Core.Path.{_≡_, sym, ap, _∙_}
-use Prim.Native.Nat.{ℕ, zero, suc, _+_, _*_, _/_, _%_, _^_, _<_}
-use native.Mathlib.Nat.{mul-zero, mul-suc, mul-one, pow-zero, pow-succ'}
+use Prim.Native.Nat.{ℕ, zero, suc, _+_, _*_, _/_, _%_, _<_}
+use native.Mathlib.Nat.{mul-zero, mul-suc, pow-zero, pow-succ'}
 use native.Mathlib.Omega.{arith}
 use lib.Dec.{lit<}
 use lib.Pow.{pow-add}

@@ -1,6 +1,8 @@
 -- `residue::Residue::pow` meets its contract: the exponent falls by halves, and each branch is one law of powers.
 -- Assumes nothing.
+use mathlib.Core.Path.{sym, ap, ap₂, _∙_}
 use borrow.Author.Needs.{needs}
+use Rattle.residue.specs.Field.{mulq, powq}
 use Rattle.residue.proofs.PowerLaws.{powq-zero, powq-even, powq-odd}
 use Prim.Native.Nat.{ℕ, _<_}
 use borrow.Fn.Kinds.{In}
@@ -27,7 +29,8 @@ pow-returns : (t : ℕ) → pow-lts.Need-returns (
   mul-reads.Asked,
   mul-reads.Learnt,
 ) (pow-at t) pow.Post
-pow-returns t c = (cc (powq-zero (c .before .args .self .0)), search needs)
+pow-returns t c =
+    let s = c .before .args in (sym (ap (powq (s .self .0)) (c .if1 .taken) ∙ powq-zero (s .self .0)), search needs)
 
 pow-pow-requires : (t : ℕ) → pow-lts.Need-pow-requires (
   pow-below t,
@@ -60,7 +63,9 @@ pow-returns-2 : (t : ℕ) → pow-lts.Need-returns-2 (
   mul-reads.Learnt,
 ) (pow-at t) pow.Post
 pow-returns-2 t c =
-    let s = c .before .before .before .before .args in (cc (powq-even (s .self .0) (s .e) (c .if2 .taken)), search needs)
+    let s = c .before .before .before .before .args in
+    let half = c .before .before .pow .ensures .0 in
+    (c .before .mul .ensures .0 ∙ ap₂ mulq half half ∙ sym (powq-even (s .self .0) (s .e) (c .if2 .taken)), search needs)
 
 pow-returns-3 : (t : ℕ) → pow-lts.Need-returns-3 (
   pow-below t,
@@ -69,7 +74,10 @@ pow-returns-3 : (t : ℕ) → pow-lts.Need-returns-3 (
   mul-reads.Learnt,
 ) (pow-at t) pow.Post
 pow-returns-3 t c =
-    let s = c .before .before .before .before .before .args in (cc (powq-odd (s .self .0) (s .e) (c .before .if2 .left)), search needs)
+    let s = c .before .before .before .before .before .args in
+    let half = c .before .before .before .pow .ensures .0 in
+    let square = c .before .before .mul .ensures .0 ∙ ap₂ mulq half half in
+    (c .mul2 .ensures .0 ∙ ap (λ x. mulq x (s .self .0)) square ∙ sym (powq-odd (s .self .0) (s .e) (c .before .if2 .left)), search needs)
 
 pub +pow-spec : {M : Type 1} → statement M
 +pow-spec = close μ-pow λ t. pow-lts.spec (

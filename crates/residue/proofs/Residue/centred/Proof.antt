@@ -25,11 +25,11 @@ sub-result-2 c = negated-fits (q - c .before .args .self .0) (omega arith)
 
 returns : tie.Need-returns
 unfolding centred
-returns c = unsigned (c .before .args .self .0) (omega arith) ∙ sym (simp (le-leb _ _ (c .if1 .taken)))
+returns c = unsigned (c .before .args .self .0) (omega arith) ∙ sym (simp (le-leb (c .before .args .self .0) 1728 (omega arith)))
 
 returns-2 : tie.Need-returns-2
 unfolding centred
-returns-2 c = negated-back (q - c .before .args .self .0) (omega arith) ∙ sym (simp (lt-leb _ _ (c .if1 .left)))
+returns-2 c = negated-back (q - c .before .args .self .0) (omega arith) ∙ sym (simp (lt-leb (c .before .args .self .0) 1728 (omega arith)))
 
 pub centred-spec : {M : Type 1} → statement M
 centred-spec =
