@@ -8,8 +8,9 @@ use lib.Dec.{ltb, lit<}
 use lib.ListN.{getD, List·getD-eq-default}
 use lib.Seq.{ext-getD}
 use Rattle.lists.specs.Tab.{tab}
+use Rattle.residue.specs.Field.{q, powq, invq}
+use Rattle.residue.specs.Residues.{Residues}
 use Rattle.lists.proofs.TabLaws.{length-tab, getD-tab, pick-both}
-use Rattle.residue.specs.Field.{q, Residues, powq, invq}
 use Rattle.residue.proofs.FieldLaws.{addq-lt, subq-lt, mulq-lt}
 use Rattle.algebra.specs.Numbers.{Numbers, residues, sum}
 use Rattle.algebra.specs.Product.{schoolbook, foldLow, foldHigh, fold, product, times}

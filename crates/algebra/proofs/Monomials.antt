@@ -11,8 +11,9 @@ use lib.Dec.{eqb, lit<}
 use lib.ListN.{getD}
 use borrow.Author.Tests.{eq-eqb, ne-eqb}
 use Rattle.lists.specs.Tab.{pick, tab}
+use Rattle.residue.specs.Field.{q, negq, subq}
+use Rattle.residue.specs.Residues.{Residues}
 use Rattle.lists.proofs.TabLaws.{getD-tab, map-pick, pick-both}
-use Rattle.residue.specs.Field.{q, Residues, negq, subq}
 use Rattle.residue.proofs.FieldLaws.{negq-lt, subq-lt}
 use Rattle.algebra.specs.Numbers.{Numbers, residues}
 use Rattle.algebra.specs.Product.{schoolbook, foldLow, foldHigh, fold, product, monomial}

@@ -4,7 +4,8 @@ use mathlib.Core.Path.{_≡_, refl, sym, ap, ap₂, _∙_}
 use mathlib.Core.List.{List, map}
 use Prim.Native.Nat.{ℕ, _+_, _*_}
 use lib.IntN.{ℤ}
-use Rattle.residue.specs.Field.{Residues, invq}
+use Rattle.residue.specs.Field.{invq}
+use Rattle.residue.specs.Residues.{Residues}
 use Rattle.residue.specs.Signed.{residueOf}
 use Rattle.residue.proofs.SignedLaws.{residueOf-add, residueOf-sub, residueOf-mul}
 use Rattle.algebra.specs.Numbers.{residues, wholes}

@@ -1,7 +1,7 @@
 -- "The product is the schoolbook product with x^n = x^(n/2) - 1, and so x^(3n/2) = -1": one definition for residues and for whole
 -- numbers, over n = 2h. A ring element is a list of n numbers, place i standing at x^i. Assumes nothing: these are definitions.
-use Prim.Native.Nat.{ℕ, suc, _+_, _-_}
 use mathlib.Core.List.{List}
+use Prim.Native.Nat.{ℕ, suc, _+_, _-_}
 use lib.Dec.{eqb, ltb}
 use lib.ListN.{getD}
 use Rattle.lists.specs.Tab.{pick, tab}

@@ -1,8 +1,8 @@
 -- The first place at which a test holds, in one list and counted through several.
 -- Assumes nothing: these are definitions.
-use Prim.Native.Nat.{ℕ, suc}
 use mathlib.Core.Bool.{Bool}
 use mathlib.Core.List.{List, [], _∷_, _++_}
+use Prim.Native.Nat.{ℕ, suc}
 use Rattle.lists.specs.Tab.{pick}
 
 -- the first place of the list at which the test holds; the length where it holds at none

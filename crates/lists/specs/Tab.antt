@@ -1,8 +1,8 @@
 -- Lists given by their elements, and the choice by a test.
 -- Assumes nothing: these are definitions.
-use Prim.Native.Nat.{ℕ, zero, suc}
 use mathlib.Core.Bool.{Bool, true, false}
 use mathlib.Core.List.{List, [], _∷_}
+use Prim.Native.Nat.{ℕ, zero, suc}
 
 -- a where the test holds, b where it does not
 abbrev pub pick {ℓ} : {A : Type ℓ} → Bool → A → A → A

@@ -6,4 +6,3 @@ pub mod Order
 pub mod TableLaws
 pub mod SignedLaws
 pub mod Machine
-pub mod Product

@@ -1,15 +1,25 @@
--- Whole numbers as the machine has them, in 32 bits: read back from their bits, and the negation of a number of 31 bits.
+-- Numbers as the machine has them: the bits of a product, and whole numbers in 32 bits, read back and negated.
 -- Assumes nothing.
-use mathlib.Core.Path.{_≡_, sym, ap, _∙_, subst}
+use mathlib.Core.Path.{_≡_, sym, ap, _∙_, subst, subst⁻¹}
 use mathlib.Core.Bool.{Bool}
-use Prim.Native.Nat.{ℕ, zero, suc, _^_, _-_, _<_}
+use Prim.Native.Nat.{ℕ, zero, suc, _+_, _*_, _^_, _-_, _<_}
+use native.Mathlib.Nat.{le-of-lt, lt-of-le-of-lt, mul-le-mul-left, mul-lt-mul-of-pos-right}
 use native.Mathlib.Omega.{arith}
 use lib.IntN.{ℤ, pos, negsuc, negℤ, _-ℤ_, +ℤ-idl}
+use lib.Pow.{pow-add, pow-pos}
 use lib.Signed.{mag}
-use borrow.Author.Tests.{lt-ltb}
 use mir.Facts.{toZ-ofZ}
 use mir.Syntax.{w32}
 use mir.Val.{SFits, toZ, ofZ, sel}
+use borrow.Author.Tests.{lt-ltb}
+
+-- the product of two numbers of k bits has at most k + k
+pub product-bits : (k : ℕ) {a b : ℕ} → a < 2 ^ k → b < 2 ^ k → a * b < 2 ^ (k + k)
+product-bits k {a} {b} ha hb =
+    subst⁻¹ (λ n. a * b < n) (pow-add 2 k k)
+    (lt-of-le-of-lt (mul-le-mul-left a (le-of-lt hb)) (mul-lt-mul-of-pos-right ha (pow-pos k)))
+
+-- ---- whole numbers in 32 bits
 
 -- a whole number of 31 bits comes back from its bits
 pub back : (z : ℤ) → mag z < 2 ^ 31 → toZ w32 (ofZ w32 z) ≡ z

@@ -1,9 +1,6 @@
 -- The arithmetic of residues: numbers below q = 3457, a prime. The suffix q says "modulo q".
 -- Assumes nothing: these are definitions.
-use mathlib.Core.Path.{_≡_}
-use mathlib.Core.List.{List}
-use Prim.Native.Nat.{ℕ, _+_, _*_, _-_, _^_, _%_, _<_}
-use lib.ListN.{length, getD}
+use Prim.Native.Nat.{ℕ, _+_, _*_, _-_, _^_, _%_}
 
 abbrev pub q : ℕ
 q = 3457
@@ -15,10 +12,12 @@ one = 1
 abbrev pub generator : ℕ
 generator = 7
 
+-- ---- the six steps
+
 unfoldable pub addq : ℕ → ℕ → ℕ
 addq a b = (a + b) % q
 
--- what a has to be added to for 0
+-- what, added to a, gives 0
 unfoldable pub negq : ℕ → ℕ
 negq a = (q - a % q) % q
 
@@ -32,11 +31,6 @@ mulq a b = (a * b) % q
 unfoldable pub powq : ℕ → ℕ → ℕ
 powq a n = (a ^ n) % q
 
--- by Fermat; 0 at 0, where it is no inverse
+-- by Fermat, of every residue but 0; at 0 it is 0
 unfoldable pub invq : ℕ → ℕ
 invq a = powq a (q - 2)
-
--- n residues
-pub record Residues (n : ℕ) (l : List ℕ) : Type 0 where
-  pub long : length l ≡ n
-  pub low : (i : ℕ) → i < n → getD l i 0 < q

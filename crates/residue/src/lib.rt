@@ -1,4 +1,4 @@
-// Residues modulo 3457. Sums and differences compare and subtract; `mul` alone divides.
+// Residues modulo 3457 and their steps. Sums and differences compare and subtract; `mul` alone reduces.
 ghost use mathlib.Core.Path.{_≡_};
 ghost use Prim.Native.Nat.{_<_};
 ghost use Rattle.residue.specs.Field.{q, addq, subq, negq, mulq, powq, invq};

@@ -1,12 +1,12 @@
 -- `residue::Residue::pow` meets its contract: the exponent falls by halves, and each branch is one law of powers.
 -- Assumes nothing.
 use mathlib.Core.Path.{sym, ap, ap₂, _∙_}
-use borrow.Author.Needs.{needs}
-use Rattle.residue.specs.Field.{mulq, powq}
-use Rattle.residue.proofs.PowerLaws.{powq-zero, powq-even, powq-odd}
 use Prim.Native.Nat.{ℕ, _<_}
+use borrow.Author.Needs.{needs}
 use borrow.Fn.Kinds.{In}
 use borrow.Fn.PlainCycle.{Measures, is, falls, and}
+use Rattle.residue.specs.Field.{mulq, powq}
+use Rattle.residue.proofs.PowerLaws.{powq-zero, powq-even, powq-odd}
 use Rattle.residue.proofs.Residue.pow.Reads as pow
 use Rattle.residue.proofs.Residue.pow.Kinds as pow-kinds
 use Rattle.residue.proofs.Residue.+pow.Lts-pow as pow-lts

@@ -1,7 +1,7 @@
 -- `residue::Residue::add` meets its contract.
 -- Assumes nothing.
-use Rattle.residue.specs.Field.{addq}
 use borrow.Author.Needs.{needs}
+use Rattle.residue.specs.Field.{addq}
 use Rattle.residue.proofs.Residue.add.Statement.{statement}
 use Rattle.residue.proofs.Residue.add.Tie as tie
 
