@@ -35,6 +35,7 @@ module _ (R : Ring) (h : ℕ) where
   unfoldable pub half : C
   half = sum num h (λ _. 𝟙)
 
+  -- (g + g^5) (1 + g^6 + g^12 + .. + g^(6h - 6))
   pub slotPowers-is : (g : C) → slotPowers g ≡ (g ⊕ pow R g 5) ⊗ sum num h (pow R (pow R g 6))
   unfolding slotPowers
   slotPowers-is g = sum-pairs R h _ ∙ sum-cong num h (λ t _. term t) ∙ sym (sum-mul R h _ _)
@@ -42,16 +43,18 @@ module _ (R : Ring) (h : ℕ) where
       term : (t : ℕ) → pow R g (exponent (t + t)) ⊕ pow R g (exponent (suc (t + t))) ≡ (g ⊕ pow R g 5) ⊗ pow R (pow R g 6) t
       term t = simp (exponent-even, exponent-odd, pow-add, pow-mul, pow-one, add-mul, mul-comm)
 
+  -- 1 sums to 2h
   pub slotPowers-one : slotPowers 𝟙 ≡ half ⊕ half
   unfolding slotPowers half
   slotPowers-one = sum-cong num (h + h) (λ k _. one-pow R (exponent k)) ∙ sum-split R h h _
 
+  -- a root of x^2 - x + 1 sums to h
   pub slotPowers-sixth : (g : C) → Sixth R g → slotPowers g ≡ half
   unfolding half
   slotPowers-sixth g s =
       slotPowers-is g ∙ rw (sixth-five R g s, sixth-six R g s, one-mul) (sum-cong num h (λ i _. one-pow R i))
 
-  -- 3h times x
+  -- 3h = h + h + h
   pub three-halves : sum num (3 * h) (λ _. 𝟙) ≡ half ⊕ half ⊕ half
   unfolding half
   three-halves = ap (λ k. sum num k (λ _. 𝟙)) e ∙ sum-split R (h + h) h _ ∙ ap (λ x. x ⊕ half) (sum-split R h h _)
@@ -79,7 +82,7 @@ module _ (R : Ring) (h : ℕ) (w u c : R .num .C) (ω : Root R h w u c) where
   order-u d p l x e =
       order d p l x (ap (λ y. pow R w (6 * d) ⊗ y) (sym e) ∙ rw (← mul-assoc R (pow R w (6 * d)) (pow R u (6 * d)) x, undo, one-mul))
 
-  -- the geometric sum of v^6d over h terms is 0, for v = w and v = u
+  -- 1 + v^6d + v^12d + .. over h terms is 0, for v = w and v = u
   geometric-nil : (v : C) (d : ℕ) → Sixth R (pow R v h) → ((x : C) → pow R v (6 * d) ⊗ x ≡ x → x ≡ 𝟘)
       → sum num h (pow R (pow R (pow R v d) 6)) ≡ 𝟘
   geometric-nil v d s keeps =
@@ -102,6 +105,7 @@ module _ (R : Ring) (h : ℕ) (w u c : R .num .C) (ω : Root R h w u c) where
   ratio-u i j l =
       rw (ap (pow R u) (sym (N.sub-add-cancel l)) ∙ pow-add R u (j - i) i, mul-comm R (pow R u (j - i)) (pow R u i), ← mul-assoc R (pow R w i) (pow R u i) (pow R u (j - i)), undo, one-mul)
 
+  -- so it is for v^d = w^i u^j
   pub vanish : (i j : ℕ) → i < h → j < h → i ≢ j → sum num h (pow R (pow R (pow R w i ⊗ pow R u j) 6)) ≡ 𝟘
   vanish i j hi hj ne = by (decLt i j)
     where

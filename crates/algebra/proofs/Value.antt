@@ -62,6 +62,7 @@ module _ (R : Ring) where
     cube p =
         rw (← mul-assoc R (pow R z h ⊕ ν) (pow R z h) p, add-mul, root, add-right-comm R (pow R z h) ν (ν ⊗ pow R z h), minus, nil-add)
 
+    -- folding keeps the value at z
     pub fold-value : (c : ℕ → C) → valueIn (h + h) (fold num h c) z ≡ valueIn (h + h + (h + h)) c z
     unfolding valueIn foldLow foldHigh
     fold-value c =

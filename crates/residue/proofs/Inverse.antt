@@ -1,6 +1,6 @@
 -- Every residue but 0 has its inverse: a^3456 = 1 by one computed test of all of them, with 3456 = 2^7 * 3^3 (Fermat).
 -- Assumes nothing.
-use mathlib.Core.Path.{_≡_, sym, ap, _∙_}
+use mathlib.Core.Path.{_≡_, refl, sym, ap, _∙_}
 use mathlib.Core.Bool.{Bool}
 use Prim.Native.Nat.{ℕ, zero, suc, _+_, _<_}
 use native.Mathlib.Omega.{arith}
@@ -60,3 +60,8 @@ pub invq-only : (a b : ℕ) → 0 < a → a < q → b < q → mulq a b ≡ 1 →
 invq-only a b p ha hb e =
     sym (one-mulq hb) ∙ ap (λ x. mulq x b) (sym (mulq-invq a p ha) ∙ mulq-comm a (invq a)) ∙ mulq-assoc (invq a) a b
     ∙ ap (mulq (invq a)) e ∙ mulq-one (invq-lt a)
+
+-- what is given at 0; no law above covers it
+pub invq-zero : invq 0 ≡ 0
+unfolding invq powq
+invq-zero = refl
