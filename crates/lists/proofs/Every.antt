@@ -24,8 +24,8 @@ below p (suc n) = p n && below p n
 pub at-below : (p : ℕ → Bool) (n : ℕ) → T (below p n) → (k : ℕ) → k < n → T (p k)
 unfolding below
 at-below p zero t k h = absurd (omega arith)
-at-below p (suc n) t k h = at (ℕ-discrete k n) (λ l. at-below p n (and-right (p n) (below p n) t) k l)
+at-below p (suc n) t k h = by (ℕ-discrete k n) (λ l. at-below p n (and-right (p n) (below p n) t) k l)
   where
-    at : Dec (k ≡ n) → (k < n → T (p k)) → T (p k)
-    at (yes e) r = subst (λ i. T (p i)) (sym e) (and-left (p n) (below p n) t)
-    at (no e) r = r (omega arith)
+    by : Dec (k ≡ n) → (k < n → T (p k)) → T (p k)
+    by (yes e) r = subst (λ i. T (p i)) (sym e) (and-left (p n) (below p n) t)
+    by (no e) r = r (omega arith)

@@ -22,11 +22,11 @@ fill-start f e = record { upto = omega arith; long = e; done = λ k h. absurd (o
 -- a turn stores f i at i
 pub fill-turn : {f : ℕ → ℕ} {n : ℕ} {l : List ℕ} {i : ℕ} → Fill f n l i → (v : ℕ) → i < n → v ≡ f i → Fill f n (set l i v) (i + 1)
 fill-turn {f} {n} {l} {i} r v h e =
-    record { upto = omega arith; long = length-set l i v ∙ r .long; done = λ k b. at k b (ℕ-discrete k i) }
+    record { upto = omega arith; long = length-set l i v ∙ r .long; done = λ k b. by k b (ℕ-discrete k i) }
   where
-    at : (k : ℕ) → k < i + 1 → Dec (k ≡ i) → getD (set l i v) k 0 ≡ f k
-    at k b (yes p) = rw p (getD-set-same l i v 0 (omega (arith, r .long)) ∙ e)
-    at k b (no p) = getD-set-other l i k v 0 p ∙ r .done k (omega arith)
+    by : (k : ℕ) → k < i + 1 → Dec (k ≡ i) → getD (set l i v) k 0 ≡ f k
+    by k b (yes p) = rw p (getD-set-same l i v 0 (omega (arith, r .long)) ∙ e)
+    by k b (no p) = getD-set-other l i k v 0 p ∙ r .done k (omega arith)
 
 -- when n places are filled, the buffer is the table
 pub fill-end : {f : ℕ → ℕ} {n : ℕ} {l : List ℕ} {i : ℕ} → Fill f n l i → n ≤ i → l ≡ tab n f
