@@ -10,7 +10,7 @@ use lib.Seq.{ext-getD}
 use Rattle.lists.specs.Tab.{tab}
 use Rattle.residue.specs.Field.{q, powq, invq}
 use Rattle.residue.specs.Residues.{Residues}
-use Rattle.lists.proofs.TabLaws.{length-tab, getD-tab, pick-both}
+use Rattle.lists.proofs.TabLaws.{length-tab, getD-tab, cond-both}
 use Rattle.residue.proofs.FieldLaws.{addq-lt, subq-lt, mulq-lt}
 use Rattle.algebra.specs.Numbers.{Numbers, residues, sum}
 use Rattle.algebra.specs.Product.{schoolbook, foldLow, foldHigh, fold, product, times}
@@ -22,7 +22,7 @@ use Rattle.algebra.proofs.Value.{valueIn, Short}
 use Rattle.algebra.proofs.Image.{imageIn, slotSumIn, mix, reverseIn}
 use Rattle.algebra.proofs.Field.{F, ι, ι-injective, ι-keeps, ι-powq}
 open Ring F using (num)
-open Numbers (F .num) using (C, nil as 𝟘, add as _⊕_, mul as _⊗_)
+open Numbers (F .num) using (C, add as _⊕_, mul as _⊗_)
 
 infixl 60 _⊕_
 infixl 70 _⊗_
@@ -52,7 +52,7 @@ residues-ext {n} {k} {l} rk rl e =
 
 fold-lt : (h : ℕ) (c : ℕ → ℕ) (i : ℕ) → fold residues h c i < q
 unfolding fold foldLow foldHigh
-fold-lt h c i = pick-both (λ x. x < q) (ltb i h) (subq-lt _ _) (addq-lt _ _)
+fold-lt h c i = cond-both (λ x. x < q) (ltb i h) (subq-lt _ _) (addq-lt _ _)
 
 sum-lt : (n : ℕ) (f : ℕ → ℕ) → sum residues n f < q
 unfolding sum

@@ -5,7 +5,7 @@ use mathlib.Core.List.{List, map}
 use Prim.Native.Nat.{ℕ, zero, suc, _+_, _-_}
 use lib.Dec.{ltb}
 use lib.ListN.{getD, List·getD-map}
-use Rattle.lists.proofs.TabLaws.{tab-cong, map-tab, map-pick}
+use Rattle.lists.proofs.TabLaws.{tab-cong, map-tab, map-cond}
 use Rattle.algebra.specs.Numbers.{Numbers, sum}
 use Rattle.algebra.specs.Product.{coefficient, schoolbook, foldLow, foldHigh, fold, product}
 use Rattle.algebra.proofs.Sum.{sum-zero, sum-suc, sum-cong}
@@ -28,7 +28,7 @@ module _ (N M : Numbers) (φ : N .C → M .C) (keeps : Map N M φ) where
 
   pub map-fold : (h : ℕ) (c : ℕ → N .C) (i : ℕ) → φ (fold N h c i) ≡ fold M h (λ m. φ (c m)) i
   unfolding fold foldLow foldHigh
-  map-fold h c i = map-pick φ (ltb i h) _ _ ∙ simp (foldLow, foldHigh, keeps .add, keeps .sub)
+  map-fold h c i = map-cond φ (ltb i h) _ _ ∙ simp (foldLow, foldHigh, keeps .add, keeps .sub)
 
   map-coefficient : (a : List (N .C)) (i : ℕ) → φ (coefficient N a i) ≡ coefficient M (map φ a) i
   map-coefficient a i = sym (List·getD-map φ a i (N .nil)) ∙ ap (getD (map φ a) i) (keeps .nil)

@@ -1,5 +1,6 @@
 -- What folding makes of the powers of x: x^n = x^h - 1 and x^3h = -1, n = 2h, and so of every product of two of them.
 -- Assumes nothing.
+use mathlib.Core.Bool.{cond}
 use mathlib.Core.Path.{_≡_, refl, sym, ap, ap₂, _∙_}
 use mathlib.Core.Logic.{_≢_}
 use mathlib.Core.List.{List}
@@ -10,10 +11,10 @@ use native.Mathlib.Omega.{arith}
 use lib.Dec.{eqb, lit<}
 use lib.ListN.{getD}
 use borrow.Author.Tests.{eq-eqb, ne-eqb}
-use Rattle.lists.specs.Tab.{pick, tab}
+use Rattle.lists.specs.Tab.{tab}
 use Rattle.residue.specs.Field.{q, negq, subq}
 use Rattle.residue.specs.Residues.{Residues}
-use Rattle.lists.proofs.TabLaws.{getD-tab, map-pick, pick-both}
+use Rattle.lists.proofs.TabLaws.{getD-tab, map-cond, cond-both}
 use Rattle.residue.proofs.FieldLaws.{negq-lt, subq-lt}
 use Rattle.algebra.specs.Numbers.{Numbers, residues}
 use Rattle.algebra.specs.Product.{schoolbook, foldLow, foldHigh, fold, product, monomial}
@@ -32,7 +33,7 @@ module _ (R : Ring) where
   infixl 70 _⊗_
   -- the coefficients of x^s
   unfoldable pub single : ℕ → ℕ → C
-  single s k = pick (eqb k s) 𝟙 𝟘
+  single s k = cond (eqb k s) 𝟙 𝟘
 
   pub single-on : (s : ℕ) → single s s ≡ 𝟙
   unfolding single
@@ -104,14 +105,14 @@ module _ (R : Ring) where
 
 monomial-residues : (n i : ℕ) → Residues n (monomial n i)
 unfolding monomial
-monomial-residues n i = tab-residues n _ (λ k. pick-both (λ x. x < q) (eqb k i) (lit< tt) (lit< tt))
+monomial-residues n i = tab-residues n _ (λ k. cond-both (λ x. x < q) (eqb k i) (lit< tt) (lit< tt))
 
 monomial-is : (n i k : ℕ) → i < n → coeffs (monomial n i) k ≡ single F i k
 unfolding monomial single
 monomial-is n i k l = by (decLt k n)
   where
     by : Dec (k < n) → coeffs (monomial n i) k ≡ single F i k
-    by (yes b) = ap ι (getD-tab n _ k 0 b) ∙ map-pick ι (eqb k i) 1 0 ∙ rw (ι-one, ι-keeps .nil)
+    by (yes b) = ap ι (getD-tab n _ k 0 b) ∙ map-cond ι (eqb k i) 1 0 ∙ rw (ι-one, ι-keeps .nil)
     by (no b) = coeffs-short (monomial-residues n i) k (omega arith) ∙ sym (single-off F i k (omega arith))
 
 module _ (h i j : ℕ) (hi : i < h + h) (hj : j < h + h) where

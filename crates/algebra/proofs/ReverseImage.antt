@@ -13,7 +13,7 @@ use Rattle.algebra.proofs.Root.{Root, slotPowers, half, slotPowers-one,
 use Rattle.algebra.proofs.Image.{imageIn, slotSumIn, mix, mix-is, reverseIn, reverse-low, reverse-high}
 
 module _ (R : Ring) (h : ℕ) (w u c : R .num .C) (ω : Root R h w u c) where
-  open Ring R using (num, one as 𝟙, neg as ν)
+  open Ring R using (num, one as 𝟙)
   open Numbers (R .num) using (C, add as _⊕_, mul as _⊗_)
   open Root ω using (sixth, third)
 

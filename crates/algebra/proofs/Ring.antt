@@ -22,7 +22,7 @@ pub record Ring : Type 1 where
   pub l-sub : (a b : num .C) → num .sub a b ≡ num .add a (num .mul neg b)
 
 module _ (R : Ring) where
-  open Ring R using (num, one as 𝟙, neg as ν)
+  open Ring R using (one as 𝟙, neg as ν)
   open Numbers (R .num) using (C, nil as 𝟘, add as _⊕_, sub as _⊖_, mul as _⊗_)
 
   infixl 60 _⊕_ _⊖_

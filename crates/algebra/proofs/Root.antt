@@ -65,7 +65,7 @@ module _ (R : Ring) (h : ℕ) where
 -- ---- at a root
 
 module _ (R : Ring) (h : ℕ) (w u c : R .num .C) (ω : Root R h w u c) where
-  open Ring R using (num, one as 𝟙, neg as ν)
+  open Ring R using (num, one as 𝟙)
   open Numbers (R .num) using (C, nil as 𝟘, add as _⊕_, mul as _⊗_)
   open Root ω using (inverse, sixth, order)
 

@@ -1,23 +1,18 @@
 -- The roots of the sets: w = 7^r, where r times 6h is 3456, the order of 7. All that the transform asks of w follows, once over h.
 -- Assumes nothing.
 use mathlib.Core.Path.{_≡_, refl, sym, ap, _∙_, subst}
-use Prim.Native.Nat.{ℕ, zero, suc, _*_, _≤_, _<_}
+use Prim.Native.Nat.{ℕ, zero, suc, _*_, _/_, _≤_, _<_}
 use native.Mathlib.Nat.{mul-lt-mul-of-pos-left, mul-le-mul-left, mul-le-mul-right}
 use native.Mathlib.Omega.{arith}
 use Rattle.residue.specs.Field.{q, generator, addq, mulq, powq, invq}
 use Rattle.residue.proofs.FieldLaws as Q
 use Rattle.residue.proofs.PowerLaws.{powq-mul}
 use Rattle.residue.proofs.Order.{turn, order, powq-opposite}
+use Rattle.algebra.specs.Roots.{IsRoot}
 use Rattle.algebra.proofs.Ring.{pow, mul-comm}
 use Rattle.algebra.proofs.Sixth.{Sixth}
 use Rattle.algebra.proofs.Root.{Root}
 use Rattle.algebra.proofs.Field.{F, ι, ι-keeps, ι-neg, ι-powq, ι-count, ι-inverse, keeps-nil}
-
--- w = 7^r has order 6h
-pub record IsRoot (h w : ℕ) : Type 0 where
-  pub log : ℕ
-  pub turns : log * (6 * h) ≡ 3456
-  pub root : powq generator log ≡ w
 
 -- ---- the two sets, by computed tests
 
@@ -37,8 +32,8 @@ unfolding mulq
 unit-positive zero b e = absurd (omega (arith, e))
 unit-positive (suc a) b e = omega arith
 
--- 7^576 = 723, whatever the set, is a root of x^2 - x + 1
-sixth-723 : Sixth F (ι (powq generator 576))
+-- 7^(3456/6) = 723, which is w^h in every set, is a root of x^2 - x + 1
+sixth-723 : Sixth F (ι (powq generator (3456 / 6)))
 unfolding powq mulq addq
 sixth-723 =
     let e : mulq 723 723 ≡ addq 723 3456 = refl in
@@ -92,7 +87,7 @@ module _ (h w : ℕ) (ρ : IsRoot h w) where
   root-sixth : Sixth F (pow F (ι w) h)
   root-sixth = subst (Sixth F) (ap (λ k. ι (powq generator k)) sixth-part ∙ ap ι (sym (powq-root h)) ∙ ι-powq w h) sixth-723
     where
-      sixth-part : 576 ≡ log * h
+      sixth-part : 3456 / 6 ≡ log * h
       sixth-part = omega (arith, turns)
 
   pub rootIn : Root F h (ι w) (ι (invq w)) (ι (invq (3 * h)))

@@ -7,7 +7,7 @@ use Rattle.algebra.proofs.Ring.{Ring, pow, add-assoc, add-comm, add-lef
 
 module _ (R : Ring) where
   open Ring R using (one as 𝟙, neg as ν)
-  open Numbers (R .num) using (C, nil as 𝟘, add as _⊕_, mul as _⊗_)
+  open Numbers (R .num) using (C, add as _⊕_, mul as _⊗_)
 
   infixl 60 _⊕_
   infixl 70 _⊗_

@@ -1,4 +1,4 @@
--- Finite sums in a commutative ring: added, multiplied, exchanged, split, the geometric sum, and a square summed by its diagonals.
+-- Finite sums in a commutative ring: added, multiplied, exchanged, split, the geometric sum, and a triangle summed by its diagonals.
 -- Assumes nothing.
 use mathlib.Core.Path.{_≡_, refl, sym, ap, _∙_}
 use mathlib.Core.Logic.{_≢_}

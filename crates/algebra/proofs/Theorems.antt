@@ -10,13 +10,14 @@ use Rattle.residue.specs.Signed.{residueOf}
 use Rattle.residue.proofs.SignedLaws.{residueOf-add, residueOf-sub, residueOf-mul}
 use Rattle.algebra.specs.Numbers.{residues, wholes}
 use Rattle.algebra.specs.Product.{product, times}
+use Rattle.algebra.specs.Roots.{IsRoot}
 use Rattle.algebra.specs.Transform.{image, reverse}
 use Rattle.algebra.proofs.Map.{Map, map-product}
 use Rattle.algebra.proofs.Image as I
 use Rattle.algebra.proofs.ReverseImage as RI
 use Rattle.algebra.proofs.ImageReverse as IR
 use Rattle.algebra.proofs.Field.{F, ι}
-use Rattle.algebra.proofs.Sets.{IsRoot, rootIn}
+use Rattle.algebra.proofs.Sets.{rootIn}
 use Rattle.algebra.proofs.Lists.{coeffs, coeffs-short, residues-ext, product-residues, times-residues, image-residues, reverse-residues, product-is, times-is, image-is, reverse-is}
 
 module _ (h w : ℕ) (ρ : IsRoot h w) where

@@ -12,7 +12,7 @@ use Rattle.algebra.proofs.Ring.{Ring, ring, pow, pow-add, mul-assoc, ni
 use Rattle.algebra.proofs.Sum.{sum-cong, sum-add, sum-mul, sum-mul-right, sum-past, sum-split, sum-halves, sum-diagonals}
 
 module _ (R : Ring) where
-  open Ring R using (num, one as 𝟙, neg as ν)
+  open Ring R using (num, neg as ν)
   open Numbers (R .num) using (C, nil as 𝟘, add as _⊕_, mul as _⊗_)
 
   infixl 60 _⊕_

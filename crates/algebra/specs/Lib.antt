@@ -1,3 +1,4 @@
 pub mod Numbers
 pub mod Product
+pub mod Roots
 pub mod Transform

@@ -1,10 +1,11 @@
 -- "The product is the schoolbook product with x^n = x^(n/2) - 1, and so x^(3n/2) = -1": one definition for residues and for whole
 -- numbers, over n = 2h. A ring element is a list of n numbers, place i standing at x^i. Assumes nothing: these are definitions.
+use mathlib.Core.Bool.{cond}
 use mathlib.Core.List.{List}
 use Prim.Native.Nat.{ℕ, suc, _+_, _-_}
 use lib.Dec.{eqb, ltb}
 use lib.ListN.{getD}
-use Rattle.lists.specs.Tab.{pick, tab}
+use Rattle.lists.specs.Tab.{tab}
 use Rattle.residue.specs.Field.{mulq}
 use Rattle.algebra.specs.Numbers.{Numbers, sum}
 
@@ -25,14 +26,14 @@ unfoldable pub foldHigh : (N : Numbers) → ℕ → (ℕ → N .C) → ℕ → N
 foldHigh N h c i = N .add (c (h + i)) (c (h + h + i))
 
 unfoldable pub fold : (N : Numbers) → ℕ → (ℕ → N .C) → ℕ → N .C
-fold N h c i = pick (ltb i h) (foldLow N h c i) (foldHigh N h c (i - h))
+fold N h c i = cond (ltb i h) (foldLow N h c i) (foldHigh N h c (i - h))
 
 unfoldable pub product : (N : Numbers) → ℕ → List (N .C) → List (N .C) → List (N .C)
 product N h a b = tab (h + h) (fold N h (schoolbook N (coefficient N a) (coefficient N b)))
 
 -- x^i
 unfoldable pub monomial : ℕ → ℕ → List ℕ
-monomial n i = tab n (λ k. pick (eqb k i) 1 0)
+monomial n i = tab n (λ k. cond (eqb k i) 1 0)
 
 -- slot by slot
 unfoldable pub times : ℕ → List ℕ → List ℕ → List ℕ

@@ -1,15 +1,14 @@
 -- The laws of the first place at which a test holds: what it says of the places, the turns of a loop that looks for it, several lists.
 -- Assumes nothing.
 use mathlib.Core.Path.{_≡_, refl, ap}
-use mathlib.Core.Bool.{Bool, true, false}
-use mathlib.Core.List.{List, [], _∷_, _++_}
+use mathlib.Core.Bool.{Bool, true, false, cond}
+use mathlib.Core.List.{List, [], _∷_, _++_, flatten}
 use Prim.Native.Nat.{ℕ, zero, suc, _+_, _≤_, _<_}
 use native.Mathlib.Numerals.{add-one}
 use native.Mathlib.Omega.{arith}
 use lib.ListN.{length, getD, drop}
 use lib.Seq.{drop-cons}
-use Rattle.lists.specs.Tab.{pick}
-use Rattle.lists.specs.First.{firstWhere, joined, firstThrough}
+use Rattle.lists.specs.First.{firstWhere, firstThrough}
 
 module _ (p : ℕ → Bool) where
   -- ---- what it says of the places
@@ -20,7 +19,7 @@ module _ (p : ℕ → Bool) where
   first-within [] = omega arith
   first-within (x ∷ xs) = by (p x) (first-within xs)
     where
-      by : (b : Bool) → firstWhere p xs ≤ length xs → pick b 0 (suc (firstWhere p xs)) ≤ suc (length xs)
+      by : (b : Bool) → firstWhere p xs ≤ length xs → cond b 0 (suc (firstWhere p xs)) ≤ suc (length xs)
       by true h = omega arith
       by false h = omega arith
 
@@ -30,7 +29,7 @@ module _ (p : ℕ → Bool) where
   first-before [] i h = absurd (omega arith)
   first-before (x ∷ xs) i h = by (p x) refl i h (first-before xs)
     where
-      by : (b : Bool) → p x ≡ b → (i : ℕ) → i < pick b 0 (suc (firstWhere p xs))
+      by : (b : Bool) → p x ≡ b → (i : ℕ) → i < cond b 0 (suc (firstWhere p xs))
           → ((k : ℕ) → k < firstWhere p xs → p (getD xs k 0) ≡ false) → p (getD (x ∷ xs) i 0) ≡ false
       by true e i h r = absurd (omega arith)
       by false e zero h r = e
@@ -42,8 +41,8 @@ module _ (p : ℕ → Bool) where
   first-holds [] h = absurd (omega arith)
   first-holds (x ∷ xs) h = by (p x) refl h (first-holds xs)
     where
-      by : (b : Bool) → p x ≡ b → pick b 0 (suc (firstWhere p xs)) < suc (length xs)
-          → (firstWhere p xs < length xs → p (getD xs (firstWhere p xs) 0) ≡ true) → p (getD (x ∷ xs) (pick b 0 (suc (firstWhere p xs))) 0) ≡ true
+      by : (b : Bool) → p x ≡ b → cond b 0 (suc (firstWhere p xs)) < suc (length xs)
+          → (firstWhere p xs < length xs → p (getD xs (firstWhere p xs) 0) ≡ true) → p (getD (x ∷ xs) (cond b 0 (suc (firstWhere p xs))) 0) ≡ true
       by true e h r = e
       by false e h r = r (omega arith)
 
@@ -69,9 +68,9 @@ module _ (p : ℕ → Bool) where
   append-here [] ys h = absurd (omega arith)
   append-here (x ∷ xs) ys h = by (p x) h (append-here xs ys)
     where
-      by : (b : Bool) → pick b 0 (suc (firstWhere p xs)) < suc (length xs)
+      by : (b : Bool) → cond b 0 (suc (firstWhere p xs)) < suc (length xs)
           → (firstWhere p xs < length xs → firstWhere p (xs ++ ys) ≡ firstWhere p xs)
-          → pick b 0 (suc (firstWhere p (xs ++ ys))) ≡ pick b 0 (suc (firstWhere p xs))
+          → cond b 0 (suc (firstWhere p (xs ++ ys))) ≡ cond b 0 (suc (firstWhere p xs))
       by true h r = refl
       by false h r = ap suc (r (omega arith))
 
@@ -80,22 +79,22 @@ module _ (p : ℕ → Bool) where
   append-past [] ys h = omega arith
   append-past (x ∷ xs) ys h = by (p x) h (append-past xs ys)
     where
-      by : (b : Bool) → suc (length xs) ≤ pick b 0 (suc (firstWhere p xs))
+      by : (b : Bool) → suc (length xs) ≤ cond b 0 (suc (firstWhere p xs))
           → (length xs ≤ firstWhere p xs → firstWhere p (xs ++ ys) ≡ length xs + firstWhere p ys)
-          → pick b 0 (suc (firstWhere p (xs ++ ys))) ≡ suc (length xs) + firstWhere p ys
+          → cond b 0 (suc (firstWhere p (xs ++ ys))) ≡ suc (length xs) + firstWhere p ys
       by true h r = absurd (omega arith)
       by false h r = omega (arith, r (omega arith))
 
   -- the first list has it: its place there
   pub through-here : (l : List ℕ) (ls : List (List ℕ)) → firstWhere p l < length l → firstThrough p (l ∷ ls) ≡ firstWhere p l
-  unfolding firstThrough joined
-  through-here l ls h = append-here l (joined ls) h
+  unfolding firstThrough flatten
+  through-here l ls h = append-here l (flatten ls) h
 
   -- the first list hasn't: its length, and then the count goes on
   pub through-past : (l : List ℕ) (ls : List (List ℕ)) → length l ≤ firstWhere p l → firstThrough p (l ∷ ls) ≡ length l + firstThrough p ls
-  unfolding firstThrough joined
-  through-past l ls h = append-past l (joined ls) h
+  unfolding firstThrough flatten
+  through-past l ls h = append-past l (flatten ls) h
 
   pub through-none : firstThrough p [] ≡ 0
-  unfolding firstThrough joined firstWhere
+  unfolding firstThrough flatten firstWhere
   through-none = refl

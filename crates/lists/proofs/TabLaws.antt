@@ -1,14 +1,14 @@
 -- The laws of tables: length, element, and that a list with the elements f 0, f 1, .. is the table of f. And of the choice by a test.
 -- Assumes nothing.
 use mathlib.Core.Path.{_≡_, refl, sym, ap, _∙_, subst}
-use mathlib.Core.Bool.{Bool, true, false}
+use mathlib.Core.Bool.{Bool, true, false, cond}
 use mathlib.Core.List.{List, _∷_, map}
 use Prim.Native.Nat.{ℕ, zero, suc, _<_}
 use native.Mathlib.Nat.{not-suc-le-zero, le-of-suc-le-suc}
 use native.Mathlib.Omega.{arith}
 use lib.ListN.{length, getD}
 use lib.Seq.{ext-getD}
-use Rattle.lists.specs.Tab.{pick, tab}
+use Rattle.lists.specs.Tab.{tab}
 
 module _ {A : Type 0} where
   pub length-tab : (n : ℕ) (f : ℕ → A) → length (tab n f) ≡ n
@@ -44,11 +44,11 @@ map-tab g zero f = refl
 map-tab g (suc n) f = ap (λ l. g (f 0) ∷ l) (map-tab g n (λ i. f (suc i)))
 
 -- a choice mapped
-pub map-pick : {A B : Type 0} (g : A → B) (t : Bool) (a b : A) → g (pick t a b) ≡ pick t (g a) (g b)
-map-pick g true a b = refl
-map-pick g false a b = refl
+pub map-cond : {A B : Type 0} (g : A → B) (t : Bool) (a b : A) → g (cond t a b) ≡ cond t (g a) (g b)
+map-cond g true a b = refl
+map-cond g false a b = refl
 
 -- what holds of both choices holds of the choice
-pub pick-both : {A : Type 0} (P : A → Type 0) (t : Bool) {a b : A} → P a → P b → P (pick t a b)
-pick-both P true x y = x
-pick-both P false x y = y
+pub cond-both : {A : Type 0} (P : A → Type 0) (t : Bool) {a b : A} → P a → P b → P (cond t a b)
+cond-both P true x y = x
+cond-both P false x y = y

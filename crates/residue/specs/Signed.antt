@@ -1,14 +1,14 @@
 -- Residues and whole numbers: the centred remainder, the remainder by 3 into -1, 0, 1, and the residue of a whole number.
 -- Assumes nothing: these are definitions.
+use mathlib.Core.Bool.{cond}
 use Prim.Native.Nat.{ℕ, zero, suc, _-_, _%_}
 use lib.Dec.{leb}
 use lib.IntN.{ℤ, pos, negsuc, negℤ}
-use Rattle.lists.specs.Tab.{pick}
 use Rattle.residue.specs.Field.{q, negq}
 
 -- "the value congruent to the residue in -1728..1728"
 unfoldable pub centred : ℕ → ℤ
-centred a = pick (leb a 1728) (pos a) (negℤ (pos (q - a)))
+centred a = cond (leb a 1728) (pos a) (negℤ (pos (q - a)))
 
 -- a remainder 0, 1, 2 as 0, 1, -1
 abbrev pub aroundZero : ℕ → ℤ
