@@ -1,4 +1,6 @@
 pub mod TabLaws
+pub mod Parts
 pub mod Fill
 pub mod FirstLaws
 pub mod Every
+pub mod BelowLaws

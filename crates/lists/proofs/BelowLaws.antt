@@ -1,0 +1,40 @@
+-- Lists of numbers below m: tables of such numbers, lists put together from such lists, and their parts.
+-- Assumes nothing.
+use mathlib.Core.List.{List, [], _∷_, _++_}
+use Prim.Native.Nat.{ℕ, zero, suc, _<_}
+use native.Mathlib.Omega.{arith}
+use lib.ListN.{getD, take, drop}
+use lib.Seq.{getD-drop}
+use Rattle.lists.specs.Tab.{tab}
+use Rattle.lists.specs.Below.{Below}
+
+module _ {m : ℕ} where
+  pub below-nil : 0 < m → Below m []
+  below-nil some = record { low = λ i. some }
+
+  below-cons : {x : ℕ} {xs : List ℕ} → x < m → Below m xs → Below m (x ∷ xs)
+  below-cons {x} {xs} a b = record { low = at }
+    where
+      at : (i : ℕ) → getD (x ∷ xs) i 0 < m
+      at zero = a
+      at (suc i) = b .low i
+
+  below-rest : {x : ℕ} {xs : List ℕ} → Below m (x ∷ xs) → Below m xs
+  below-rest h = record { low = λ i. h .low (suc i) }
+
+  pub below-tab : 0 < m → (n : ℕ) (f : ℕ → ℕ) → ((i : ℕ) → f i < m) → Below m (tab n f)
+  unfolding tab
+  below-tab some zero f h = below-nil some
+  below-tab some (suc n) f h = below-cons (h 0) (below-tab some n (λ i. f (suc i)) (λ i. h (suc i)))
+
+  pub below-append : (xs : List ℕ) {ys : List ℕ} → Below m xs → Below m ys → Below m (xs ++ ys)
+  below-append [] a b = b
+  below-append (x ∷ xs) a b = below-cons (a .low 0) (below-append xs (below-rest a) b)
+
+  pub below-take : (k : ℕ) (l : List ℕ) → Below m l → Below m (take k l)
+  below-take zero l h = below-nil (omega (arith, h .low 0))
+  below-take (suc k) [] h = h
+  below-take (suc k) (x ∷ l) h = below-cons (h .low 0) (below-take k l (below-rest h))
+
+  pub below-drop : (k : ℕ) (l : List ℕ) → Below m l → Below m (drop k l)
+  below-drop k l h = record { low = λ i. rw (getD-drop k l i 0) (h .low _) }
