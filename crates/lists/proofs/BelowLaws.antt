@@ -7,6 +7,7 @@ use lib.ListN.{getD, take, drop}
 use lib.Seq.{getD-drop}
 use Rattle.lists.specs.Tab.{tab}
 use Rattle.lists.specs.Below.{Below}
+use Rattle.lists.proofs.TabLaws.{all-tab}
 
 module _ {m : ℕ} where
   pub below-nil : 0 < m → Below m []
@@ -23,9 +24,7 @@ module _ {m : ℕ} where
   below-rest h = record { low = λ i. h .low (suc i) }
 
   pub below-tab : 0 < m → (n : ℕ) (f : ℕ → ℕ) → ((i : ℕ) → f i < m) → Below m (tab n f)
-  unfolding tab
-  below-tab some zero f h = below-nil some
-  below-tab some (suc n) f h = below-cons (h 0) (below-tab some n (λ i. f (suc i)) (λ i. h (suc i)))
+  below-tab some n f h = record { low = all-tab (λ x. x < m) 0 some n f h }
 
   pub below-append : (xs : List ℕ) {ys : List ℕ} → Below m xs → Below m ys → Below m (xs ++ ys)
   below-append [] a b = b

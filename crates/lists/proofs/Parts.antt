@@ -5,7 +5,7 @@ use mathlib.Core.List.{List, _++_, append-assoc, append-nil}
 use Prim.Native.Nat.{ℕ, _-_, _≤_, _<_}
 use native.Mathlib.Omega.{arith}
 use lib.ListN.{length, getD, take, drop, length-append}
-use lib.Seq.{length-take-le, take-append-seam, take-at, drop-at, take-length, drop-length, getD-take}
+use lib.Seq.{length-take-le, take-append-seam, take-at, drop-at, drop-length, getD-take}
 use borrow.Rule.Slice.PartMut.{putMid, post-is}
 
 module _ {A : Type 0} where
@@ -20,16 +20,8 @@ module _ {A : Type 0} where
       ap (take e) (ap (λ xs. take a l ++ (part ++ xs)) (post-is a e l h) ∙ sym (append-assoc (take a l) part (drop e l)))
       ∙ take-at (take a l ++ part) (drop e l) e (omega (arith, length-append (take a l) part, length-take-le a l (omega arith)))
 
-  -- the first h places were lent and came back as p, then the others
-  module _ (h : ℕ) (d p q : List A) (fits : h ≤ length d) (lp : length p ≡ h) where
-    rest : length (p ++ drop h d) - h ≡ length (drop h d)
-    rest = omega (arith, length-append p (drop h d))
-
-    -- what was lent then
-    pub second-part : take (length (p ++ drop h d) - h) (drop h (p ++ drop h d)) ≡ drop h d
-    second-part = rw (rest, drop-at p (drop h d) h lp) (take-length (drop h d))
-
-    -- and what the buffer holds when they came back as q
-    pub both-parts : putMid h (length (p ++ drop h d) - h) (p ++ drop h d) q ≡ p ++ q
-    both-parts =
-        rw (rest, take-at p (drop h d) h lp, drop-at p (drop h d) h lp, drop-length (drop h d)) (ap (λ l. p ++ l) (append-nil q))
+  -- the first h places were lent and came back as p, then the others and came back as q
+  pub both-parts : (h : ℕ) (d p q : List A) → length p ≡ h → putMid h (length (p ++ drop h d) - h) (p ++ drop h d) q ≡ p ++ q
+  both-parts h d p q lp =
+      let rest : length (p ++ drop h d) - h ≡ length (drop h d) = omega (arith, length-append p (drop h d)) in
+      rw (rest, take-at p (drop h d) h lp, drop-at p (drop h d) h lp, drop-length (drop h d)) (ap (λ l. p ++ l) (append-nil q))

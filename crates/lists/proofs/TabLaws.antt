@@ -37,11 +37,22 @@ module _ {A : Type 0} where
   tab-cong (suc n) {f} {g} e =
       ap (λ x. x ∷ tab n (λ i. f (suc i))) (e 0 (omega arith)) ∙ ap (λ l. g 0 ∷ l) (tab-cong n (λ i h. e (suc i) (omega arith)))
 
+-- what holds of each f i, and of the element that stands for none, holds throughout
+pub all-tab : {A : Type 0} (P : A → Type 0) (d : A) → P d → (n : ℕ) (f : ℕ → A) → ((i : ℕ) → P (f i)) → (i : ℕ) → P (getD (tab n f) i d)
+unfolding tab
+all-tab P d e zero f h i = e
+all-tab P d e (suc n) f h zero = h 0
+all-tab P d e (suc n) f h (suc i) = all-tab P d e n (λ k. f (suc k)) (λ k. h (suc k)) i
+
 -- a table mapped
 pub map-tab : {A B : Type 0} (g : A → B) (n : ℕ) (f : ℕ → A) → map g (tab n f) ≡ tab n (λ i. g (f i))
 unfolding tab
 map-tab g zero f = refl
 map-tab g (suc n) f = ap (λ l. g (f 0) ∷ l) (map-tab g n (λ i. f (suc i)))
+
+-- a list mapped is the table of what its elements are mapped to
+pub tab-map : {A B : Type 0} (g : A → B) (d : A) (n : ℕ) (l : List A) → length l ≡ n → tab n (λ i. g (getD l i d)) ≡ map g l
+tab-map g d n l e = sym (map-tab g n (λ i. getD l i d)) ∙ ap (map g) (sym (tab-of d n (λ i. getD l i d) l e (λ i h. refl)))
 
 -- a choice mapped
 pub map-cond : {A B : Type 0} (g : A → B) (t : Bool) (a b : A) → g (cond t a b) ≡ cond t (g a) (g b)

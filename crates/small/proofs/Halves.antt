@@ -1,0 +1,90 @@
+-- What steps on the bits of a block's two halves, one after the other in one room, make of the block.
+-- Assumes nothing.
+use mathlib.Core.Path.{_≡_, sym, ap, _∙_, subst}
+use mathlib.Core.List.{List, _++_, map}
+use Prim.Native.Nat.{ℕ, _+_, _*_, _/_, _%_, _<_}
+use native.Mathlib.Omega.{arith}
+use lib.IntN.{pos, _-ℤ_}
+use lib.ListN.{length, getD, length-append, length-drop, length-map, List·getD-map}
+use lib.Seq.{length-take-le, getD-append-add}
+use Rattle.lists.specs.Tab.{tab}
+use Rattle.lists.specs.Below.{Below}
+use Rattle.lists.proofs.TabLaws.{tab-cong, map-tab}
+use Rattle.lists.proofs.BelowLaws.{below-append}
+use Rattle.lists.proofs.Parts.{getD-left}
+use Rattle.residue.specs.Signed.{residueOf}
+use Rattle.bits.specs.Listing.{listed, unlisted}
+use Rattle.bits.proofs.ListingLaws.{length-listed, below-listed}
+use Rattle.small.specs.Marks.{ofMark}
+use Rattle.small.specs.Sampling.{firstHalf, secondHalf, firstBit, secondBit, sampled}
+use Rattle.small.specs.Encoding.{encodeBit, decodeBit, encoded, decoded}
+
+mark-at : (marks : List ℕ) (i : ℕ) → ofMark (getD marks i 0) ≡ getD (map ofMark marks) i (pos 0)
+unfolding ofMark
+mark-at marks i = sym (List·getD-map ofMark marks i 0)
+
+module _ (block : List ℕ) (words : length block % 8 ≡ 0) where
+  first-words : length (firstHalf block) ≡ length block / 2
+  unfolding firstHalf
+  first-words = length-take-le (length block / 2) block (omega arith)
+
+  second-words : length (secondHalf block) ≡ length block / 2
+  unfolding secondHalf
+  second-words = length-drop (length block / 2) block ∙ omega arith
+
+  -- n bits of the first half, and n of the second
+  length-first : length (listed (firstHalf block)) ≡ 4 * length block
+  length-first = length-listed (firstHalf block) (omega (arith, first-words)) ∙ omega (arith, first-words)
+
+  length-second : length (listed (secondHalf block)) ≡ 4 * length block
+  length-second = length-listed (secondHalf block) (omega (arith, second-words)) ∙ omega (arith, second-words)
+
+  -- the room that holds both
+  module _ (halves : List ℕ) (is : halves ≡ listed (firstHalf block) ++ listed (secondHalf block)) where
+    pub halves-long : length halves ≡ 8 * length block
+    halves-long = ap length is ∙ length-append (listed (firstHalf block)) (listed (secondHalf block)) ∙ omega (arith, length-first, length-second)
+
+    pub halves-low : Below 2 halves
+    halves-low = subst (Below 2) (sym is) (below-append (listed (firstHalf block)) (below-listed _) (below-listed _))
+
+    -- its bits i and n + i are bit i of the first half and of the second
+    bit-first : (i : ℕ) → i < 4 * length block → getD halves i 0 ≡ firstBit block i
+    unfolding firstBit
+    bit-first i h = ap (λ l. getD l i 0) is ∙ getD-left (listed (firstHalf block)) (listed (secondHalf block)) i 0 (omega (arith, length-first))
+
+    bit-second : (i : ℕ) → getD halves (4 * length block + i) 0 ≡ secondBit block i
+    unfolding secondBit
+    bit-second i =
+        ap (λ k. getD halves (k + i) 0) (sym length-first) ∙ ap (λ l. getD l (length (listed (firstHalf block)) + i) 0) is
+        ∙ getD-append-add (listed (firstHalf block)) (listed (secondHalf block)) i 0
+
+    -- so a step on them is a step on those
+    step-is : (n : ℕ) → n ≡ 4 * length block → (f : ℕ → ℕ → ℕ → ℕ)
+        → tab n (λ i. f i (getD halves i 0) (getD halves (n + i) 0)) ≡ tab n (λ i. f i (firstBit block i) (secondBit block i))
+    step-is n e f =
+        tab-cong n (λ i h. ap (λ a. f i a (getD halves (n + i) 0)) (bit-first i (omega arith)) ∙ ap (f i (firstBit block i)) (ap (λ k. getD halves (k + i) 0) e ∙ bit-second i))
+
+    pub sampled-is : (n : ℕ) → n ≡ 4 * length block
+        → tab n (λ i. residueOf (pos (getD halves i 0) -ℤ pos (getD halves (n + i) 0))) ≡ map residueOf (sampled block)
+    unfolding sampled
+    sampled-is n e =
+        step-is n e (λ i a b. residueOf (pos a -ℤ pos b))
+        ∙ ap (λ m. tab m (λ i. residueOf (pos (firstBit block i) -ℤ pos (secondBit block i)))) e
+        ∙ sym (map-tab residueOf (4 * length block) (λ i. pos (firstBit block i) -ℤ pos (secondBit block i)))
+
+    pub encoded-is : (message bits : List ℕ) (n : ℕ) → n ≡ 4 * length block → n ≡ 8 * length message → bits ≡ listed message
+        → tab n (λ i. residueOf (encodeBit (getD bits i 0) (getD halves i 0) (getD halves (n + i) 0))) ≡ map residueOf (encoded message block)
+    unfolding encoded
+    encoded-is message bits n e k m =
+        step-is n e (λ i a b. residueOf (encodeBit (getD bits i 0) a b))
+        ∙ ap (λ l. tab n (λ i. residueOf (encodeBit (getD l i 0) (firstBit block i) (secondBit block i)))) m
+        ∙ ap (λ x. tab x (λ i. residueOf (encodeBit (getD (listed message) i 0) (firstBit block i) (secondBit block i)))) k
+        ∙ sym (map-tab residueOf (8 * length message) (λ i. encodeBit (getD (listed message) i 0) (firstBit block i) (secondBit block i)))
+
+    pub decoded-is : (marks bits : List ℕ) (n : ℕ) → n ≡ 4 * length block → n ≡ length marks
+        → bits ≡ tab n (λ i. decodeBit (ofMark (getD marks i 0)) (getD halves i 0) (getD halves (n + i) 0)) → unlisted bits ≡ decoded (map ofMark marks) block
+    unfolding decoded
+    decoded-is marks bits n e k b =
+        ap unlisted (b ∙ step-is n e (λ i x y. decodeBit (ofMark (getD marks i 0)) x y)
+        ∙ tab-cong n (λ i h. ap (λ c. decodeBit c (firstBit block i) (secondBit block i)) (mark-at marks i))
+        ∙ ap (λ m. tab m (λ i. decodeBit (getD (map ofMark marks) i (pos 0)) (firstBit block i) (secondBit block i))) (k ∙ sym (length-map marks ofMark)))

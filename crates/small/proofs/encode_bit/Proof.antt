@@ -1,0 +1,23 @@
+-- `small::encode_bit` meets its contract: the machine's exclusive or is that of the bits.
+-- Assumes nothing.
+use mathlib.Core.Path.{sym, ap, _∙_}
+use Prim.Native.Nat.{_<_}
+use lib.IntN.{pos, _-ℤ_}
+use Rattle.residue.specs.Signed.{residueOf}
+use Rattle.small.specs.Encoding.{encodeBit}
+use Rattle.small.proofs.BitLaws.{bitXor-xor, xor-lt}
+use Rattle.small.proofs.encode_bit.Statement.{statement}
+use Rattle.small.proofs.encode_bit.Tie as tie
+
+difference-requires : tie.Need-difference-requires
+difference-requires c κs = (rw (bitXor-xor (c .args .message) (c .args .first) (c .pre .0) (c .pre .1)) (xor-lt _ _), c .pre .2)
+
+returns : tie.Need-returns
+unfolding encodeBit
+returns c =
+    let s = c .before in
+    c .difference .ensures
+    ∙ ap (λ x. residueOf (pos x -ℤ pos (s .args .second))) (bitXor-xor (s .args .message) (s .args .first) (s .pre .0) (s .pre .1))
+
+pub encode-bit-spec : {M : Type 1} → statement M
+encode-bit-spec = tie.close (tie.spec difference-requires returns)

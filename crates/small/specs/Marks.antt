@@ -1,0 +1,23 @@
+-- Small whole numbers, and the marks that stand for them.
+-- Assumes nothing: these are definitions.
+use mathlib.Core.List.{List}
+use Prim.Native.Nat.{ℕ, _≤_}
+use lib.IntN.{ℤ, pos, negsuc, natAbs}
+use lib.ListN.{getD}
+use Rattle.residue.specs.Signed.{aroundZero}
+
+-- -1, 0 or 1
+unfoldable pub Small : ℤ → Type 0
+Small z = natAbs z ≤ 1
+
+-- "A mark is a byte: 0, 1, or 2 for -1."
+unfoldable pub markOf : ℤ → ℕ
+markOf (pos n) = n
+markOf (negsuc n) = 2
+
+unfoldable pub ofMark : ℕ → ℤ
+ofMark m = aroundZero m
+
+-- each coefficient is small
+pub record Smalls (l : List ℤ) : Type 0 where
+  pub small : (i : ℕ) → Small (getD l i (pos 0))
