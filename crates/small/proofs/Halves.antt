@@ -33,7 +33,7 @@ module _ (block : List ℕ) (words : length block % 8 ≡ 0) where
   second-words = length-drop (length block / 2) block ∙ omega arith
 
   -- n bits of the first half, and n of the second
-  length-first : length (listed (firstHalf block)) ≡ 4 * length block
+  pub length-first : length (listed (firstHalf block)) ≡ 4 * length block
   length-first = length-listed (firstHalf block) (omega (arith, first-words)) ∙ omega (arith, first-words)
 
   length-second : length (listed (secondHalf block)) ≡ 4 * length block

@@ -1,11 +1,13 @@
 -- `small::decode` meets its contract: the bits of the two halves, the message bits, then the reverse of the listing.
 -- Assumes nothing.
 use mathlib.Core.Path.{_≡_, sym, ap, _∙_, subst}
-use Prim.Native.Nat.{_%_}
+use mathlib.Core.List.{List}
+use Prim.Native.Nat.{ℕ, _%_, _<_}
 use native.Mathlib.Omega.{arith}
 use lib.ListN.{length}
 use denote.Ref.{now}
 use borrow.Author.Needs.{needs}
+use Rattle.lists.specs.Tab.{tab}
 use Rattle.lists.specs.Below.{Below}
 use Rattle.lists.proofs.TabLaws.{length-tab}
 use Rattle.lists.proofs.BelowLaws.{below-tab}
@@ -13,6 +15,10 @@ use Rattle.small.proofs.BitLaws.{decodeBit-lt}
 use Rattle.small.proofs.Halves.{halves-long, halves-low, decoded-is}
 use Rattle.small.proofs.decode.Statement.{statement}
 use Rattle.small.proofs.decode.Tie as tie
+
+-- a table of bits
+table-low : (bits : List ℕ) (n : ℕ) (f : ℕ → ℕ) → bits ≡ tab n f → ((i : ℕ) → f i < 2) → Below 2 bits
+table-low bits n f e h = subst (Below 2) (sym e) (below-tab (omega arith) n f h)
 
 list-halves-requires : tie.Need-list-halves-requires
 list-halves-requires c κs = search needs
@@ -34,7 +40,7 @@ unlist-requires c κs =
     let d = c .before .before .before .before in
     let s = d .before .before .before .before .before .before .before .before .before .before .before .before in
     let long = ap length (d .decode-bits .ensures) ∙ length-tab (length (now (s .args .bits))) _ in
-    (omega (arith, long, s .pre), omega (arith, long, s .pre), subst (Below 2) (sym (d .decode-bits .ensures)) (below-tab (omega arith) _ _ (λ i. decodeBit-lt _ _ _)))
+    (omega (arith, long, s .pre), omega (arith, long, s .pre), table-low _ _ _ (d .decode-bits .ensures) (λ i. decodeBit-lt _ _ _))
 
 same-length : tie.Need-same-length
 same-length c = search needs

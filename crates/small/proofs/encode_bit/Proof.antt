@@ -1,7 +1,7 @@
 -- `small::encode_bit` meets its contract: the machine's exclusive or is that of the bits.
 -- Assumes nothing.
-use mathlib.Core.Path.{sym, ap, _∙_}
-use Prim.Native.Nat.{_<_}
+use mathlib.Core.Path.{ap, _∙_}
+use native.Mathlib.Omega.{arith}
 use lib.IntN.{pos, _-ℤ_}
 use Rattle.residue.specs.Signed.{residueOf}
 use Rattle.small.specs.Encoding.{encodeBit}
@@ -10,7 +10,9 @@ use Rattle.small.proofs.encode_bit.Statement.{statement}
 use Rattle.small.proofs.encode_bit.Tie as tie
 
 difference-requires : tie.Need-difference-requires
-difference-requires c κs = (rw (bitXor-xor (c .args .message) (c .args .first) (c .pre .0) (c .pre .1)) (xor-lt _ _), c .pre .2)
+difference-requires c κs =
+    let a = c .args in
+    (omega (arith, c .pre, bitXor-xor (a .message) (a .first) (c .pre .0) (c .pre .1), xor-lt (a .message) (a .first)), c .pre .2)
 
 returns : tie.Need-returns
 unfolding encodeBit

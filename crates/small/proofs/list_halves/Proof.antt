@@ -1,20 +1,29 @@
 -- `small::list_halves` meets its contract: the two halves of the room, filled one after the other.
 -- Assumes nothing.
 use mathlib.Core.Path.{_≡_, sym, ap, _∙_}
-use mathlib.Core.List.{_++_}
-use Prim.Native.Nat.{_/_}
+use mathlib.Core.List.{List, _++_}
+use Prim.Native.Nat.{ℕ, _-_, _/_}
 use native.Mathlib.Omega.{arith}
-use lib.ListN.{length, take}
+use lib.ListN.{length, take, drop, length-take}
 use lib.Seq.{length-take-le}
 use denote.Ref.{now}
 use borrow.Author.Needs.{needs}
 use borrow.Rule.Slice.PartAt.{part-to-end}
 use Rattle.lists.proofs.Parts.{both-parts}
 use Rattle.bits.specs.Listing.{listed}
-use Rattle.bits.proofs.ListingLaws.{length-listed}
 use Rattle.small.specs.Sampling.{firstHalf, secondHalf}
+use Rattle.small.proofs.Halves.{length-first}
 use Rattle.small.proofs.list_halves.Statement.{statement}
 use Rattle.small.proofs.list_halves.Tie as tie
+
+-- what the two calls are lent are the halves
+first-half : (block p : List ℕ) → p ≡ listed (take (length block / 2) block) → p ≡ listed (firstHalf block)
+unfolding firstHalf
+first-half block p e = e
+
+second-half : (block q : List ℕ) → q ≡ listed (take (length block - length block / 2) (drop (length block / 2) block)) → q ≡ listed (secondHalf block)
+unfolding secondHalf
+second-half block q e = e ∙ ap listed (part-to-end block (length block / 2))
 
 slice-aggregate-list : tie.Need-slice-aggregate-list
 slice-aggregate-list c = sym (length-take-le _ _ (omega arith))
@@ -28,10 +37,7 @@ slice-aggregate-list-2 c = sym (length-take-le _ _ (omega arith))
 list-requires : tie.Need-list-requires
 list-requires c κs =
     let s = c .before .before .before .before in
-    let halves = now (s .args .halves) in
-    let block = now (s .args .block) in
-    let n = length-take-le (length halves / 2) halves (omega arith) in
-    (omega (arith, n, length-take-le (length block / 2) block (omega arith), s .pre), omega (arith, n, s .pre))
+    simp length-take (omega (arith, s .pre))
 
 sub-list : tie.Need-sub-list
 sub-list c = search needs
@@ -58,19 +64,15 @@ same-length : tie.Need-same-length
 same-length c = search needs
 
 returns : tie.Need-returns
-unfolding firstHalf secondHalf
 returns c =
     let s = c .before .before .before .before .before .before .before .before .before .before .before .before in
-    let halves = now (s .args .halves) in
     let block = now (s .args .block) in
-    let first = c .before .before .before .before .before .before .before .list in
-    let second = c .before .before .list2 in
-    let half = length-take-le (length block / 2) block (omega arith) in
-    let n : length (listed (take (length block / 2) block)) ≡ length halves / 2 =
-    length-listed (take (length block / 2) block) (omega (arith, half, s .pre)) ∙ omega (arith, half, s .pre) in
-    both-parts (length halves / 2) halves (first .last .1 .0) (second .last .1 .0) (ap length (first .ensures) ∙ n)
-    ∙ ap (λ l. l ++ second .last .1 .0) (first .ensures)
-    ∙ ap (λ l. listed (take (length block / 2) block) ++ l) (second .ensures ∙ ap listed (part-to-end block (length block / 2)))
+    let p = c .before .before .before .before .before .before .before .list .last .1 .0 in
+    let q = c .before .before .list2 .last .1 .0 in
+    let first : p ≡ listed (firstHalf block) = first-half block p (c .before .before .before .before .before .before .before .list .ensures) in
+    let second : q ≡ listed (secondHalf block) = second-half block q (c .before .before .list2 .ensures) in
+    both-parts (length (now (s .args .halves)) / 2) (now (s .args .halves)) p q (ap length first ∙ length-first block (s .pre .1) ∙ omega (arith, s .pre))
+    ∙ ap (λ l. l ++ q) first ∙ ap (λ l. listed (firstHalf block) ++ l) second
 
 pub list-halves-spec : {M : Type 1} → statement M
 list-halves-spec =
