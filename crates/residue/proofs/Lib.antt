@@ -6,3 +6,4 @@ pub mod Order
 pub mod TableLaws
 pub mod SignedLaws
 pub mod Machine
+pub mod LargeLaws

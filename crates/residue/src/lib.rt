@@ -4,6 +4,7 @@ ghost use Prim.Native.Nat.{_<_};
 ghost use Rattle.residue.specs.Field.{q, addq, subq, negq, mulq, powq, invq};
 ghost use Rattle.residue.specs.Signed.{centred, byThree, centredByThree};
 
+pub mod scan;
 pub mod table;
 
 // A residue modulo 3457, by the number below 3457 that stands for it.
