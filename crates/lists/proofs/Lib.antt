@@ -1,4 +1,5 @@
 pub mod TabLaws
+pub mod Flat
 pub mod Parts
 pub mod Fill
 pub mod FirstLaws
