@@ -40,6 +40,15 @@ pub blocks-none : blocks 0 ≡ []
 unfolding blocks blockLengths cut
 blocks-none = refl
 
+-- the two sets
+pub blocks-576 : blocks 576 ≡ 256 ∷ 256 ∷ 64 ∷ []
+unfolding blocks blockLengths cut
+blocks-576 = refl
+
+pub blocks-1152 : blocks 1152 ≡ 256 ∷ 256 ∷ 256 ∷ 256 ∷ 128 ∷ []
+unfolding blocks blockLengths cut
+blocks-1152 = refl
+
 -- ---- all blocks
 
 -- each is whole words

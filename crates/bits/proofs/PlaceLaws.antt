@@ -4,11 +4,10 @@ use mathlib.Core.Path.{_≡_, refl, sym, ap, _∙_, subst}
 use mathlib.Core.List.{List, [], _∷_, _++_}
 use Prim.Native.Nat.{ℕ, zero, suc, _+_, _-_, _*_, _/_, _%_, _<_, _≤_}
 use native.Mathlib.Omega.{arith}
-use lib.ListN.{length, getD, take, drop}
+use lib.ListN.{length, getD, take, drop, List·getD-append}
 use lib.Seq.{getD-append-add, getD-take, getD-drop}
 use Rattle.lists.specs.Below.{Below}
 use Rattle.lists.proofs.BelowLaws.{below-take, below-drop}
-use Rattle.lists.proofs.Parts.{getD-left}
 use Rattle.bits.specs.Bits.{bit, word, littleEndian, bitOf}
 use Rattle.bits.specs.Blocks.{blocks, blockwise}
 use Rattle.bits.specs.Listing.{place, goesTo, listedBlock, listed}
@@ -46,7 +45,7 @@ listedBy-at [] B after w bs bytes t h =
     let z : 0 + goesTo B t ≡ goesTo B t = omega arith in
     let y : t ≡ 0 + t = omega arith in
     ap (λ p. getD (listedBlock B (take (B / 8) bs) ++ listedBy after (drop (B / 8) bs)) p 0) z
-    ∙ getD-left (listedBlock B (take (B / 8) bs)) (listedBy after (drop (B / 8) bs)) (goesTo B t) 0 k
+    ∙ List·getD-append (listedBlock B (take (B / 8) bs)) (listedBy after (drop (B / 8) bs)) 0 (goesTo B t) k
     ∙ listedBlock-at B (w .0) (take (B / 8) bs) t h ∙ bitOf-take (B / 8) bs bytes t (omega (arith, w .0)) ∙ ap (bitOf bs) y
 listedBy-at (A ∷ before) B after w bs bytes t h =
     let e : A + start before + goesTo B t ≡ length (listedBlock A (take (A / 8) bs)) + (start before + goesTo B t) = omega (arith, length-listedBlock A (take (A / 8) bs)) in

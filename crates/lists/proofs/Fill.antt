@@ -1,17 +1,17 @@
--- The filling of a buffer by a loop, one place a turn or one part: the invariant, its start, its turns and its end.
+-- The filling of a buffer by a loop, one, two or three places a turn, or a part: the invariant, its start, its turns and its end.
 -- Assumes nothing.
-use mathlib.Core.Path.{_≡_, sym, ap, _∙_}
+use mathlib.Core.Path.{_≡_, refl, sym, ap, _∙_, subst}
 use mathlib.Core.List.{List, _++_}
-use Prim.Native.Nat.{ℕ, _+_, _-_, _≤_, _<_}
+use Prim.Native.Nat.{ℕ, _+_, _-_, _*_, _≤_, _<_}
 use native.Mathlib.Decide.{ℕ-discrete, decLt}
 use native.Mathlib.Nat.{add-sub-of-le}
 use native.Mathlib.Omega.{arith}
-use lib.ListN.{length, getD, set, take, length-set}
+use lib.ListN.{length, getD, set, take, length-set, List·getD-append}
 use lib.Seq.{length-take-le, getD-set-same, getD-set-other, getD-take, getD-append-add}
 use borrow.Rule.Slice.PartMut.{putMid, same-len-mid, mid-len}
 use Rattle.lists.specs.Tab.{tab}
 use Rattle.lists.proofs.TabLaws.{length-tab, getD-tab, tab-of}
-use Rattle.lists.proofs.Parts.{getD-left, take-put}
+use Rattle.lists.proofs.Parts.{take-put}
 
 -- at a loop's head: the buffer l has n places, and the first i of them hold f 0, .., f (i - 1)
 pub record Fill (f : ℕ → ℕ) (n : ℕ) (l : List ℕ) (i : ℕ) : Type 0 where
@@ -30,6 +30,20 @@ fill-turn {f} {n} {l} {i} r v h e =
     by : (k : ℕ) → k < i + 1 → Dec (k ≡ i) → getD (set l i v) k 0 ≡ f k
     by k b (yes p) = rw p (getD-set-same l i v 0 (omega (arith, r .long)) ∙ e)
     by k b (no p) = getD-set-other l i k v 0 p ∙ r .done k (omega arith)
+
+module _ {f : ℕ → ℕ} {n : ℕ} {l : List ℕ} (k : ℕ) where
+  -- a turn that stores f (2 k) and f (2 k + 1)
+  pub fill-two : Fill f n l (2 * k) → (x y : ℕ) → 2 * k + 1 < n → x ≡ f (2 * k) → y ≡ f (2 * k + 1)
+      → Fill f n (set (set l (2 * k) x) (2 * k + 1) y) (2 * (k + 1))
+  fill-two r x y h ex ey = subst (Fill f n _) (omega arith) (fill-turn (fill-turn r x (omega arith) ex) y h ey)
+
+  -- a turn that stores f (3 k), f (3 k + 1) and f (3 k + 2)
+  pub fill-three : Fill f n l (3 * k) → (x y z : ℕ) → 3 * k + 2 < n → x ≡ f (3 * k) → y ≡ f (3 * k + 1) → z ≡ f (3 * k + 2)
+      → Fill f n (set (set (set l (3 * k) x) (3 * k + 1) y) (3 * k + 2) z) (3 * (k + 1))
+  fill-three r x y z h ex ey ez =
+      let two = fill-turn (fill-turn r x (omega arith) ex) y (omega arith) ey in
+      let at : 3 * k + 1 + 1 ≡ 3 * k + 2 = omega arith in
+      subst (Fill f n _) (omega arith) (fill-turn (subst (Fill f n _) at two) z h ez)
 
 -- a turn lends the places from i to e, and they come back as f i, .., f (e - 1)
 pub fill-part : {f : ℕ → ℕ} {n : ℕ} {l : List ℕ} {i : ℕ} → Fill f n l i → (e : ℕ) (part : List ℕ) → i ≤ e → e ≤ n
@@ -50,7 +64,7 @@ fill-part {f} {n} {l} {i} r e part h b p =
     shorter = length-take-le i l (omega arith)
 
     by : (k : ℕ) → k < e → Dec (k < i) → getD (take i l ++ part) k 0 ≡ f k
-    by k u (yes g) = getD-left (take i l) part k 0 (omega (arith, shorter)) ∙ getD-take i l k 0 g ∙ r .done k g
+    by k u (yes g) = List·getD-append (take i l) part 0 k (omega (arith, shorter)) ∙ getD-take i l k 0 g ∙ r .done k g
     by k u (no g) =
         let e : k ≡ length (take i l) + (k - i) = omega (arith, shorter) in
         ap (λ m. getD (take i l ++ part) m 0) e ∙ getD-append-add (take i l) part (k - i) 0
@@ -59,3 +73,7 @@ fill-part {f} {n} {l} {i} r e part h b p =
 -- when n places are filled, the buffer is the table
 pub fill-end : {f : ℕ → ℕ} {n : ℕ} {l : List ℕ} {i : ℕ} → Fill f n l i → n ≤ i → l ≡ tab n f
 fill-end {f} {n} {l} r h = tab-of 0 n f l (r .long) (λ k b. r .done k (omega arith))
+
+-- a buffer filled with the elements of a list is the list
+pub fill-list : (xs : List ℕ) {n : ℕ} {l : List ℕ} {i : ℕ} → Fill (λ j. getD xs j 0) n l i → n ≤ i → length xs ≡ n → l ≡ xs
+fill-list xs {n} r h e = fill-end r h ∙ sym (tab-of 0 n (λ j. getD xs j 0) xs e (λ j b. refl))

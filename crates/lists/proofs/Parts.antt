@@ -9,11 +9,6 @@ use lib.Seq.{length-take-le, take-append-seam, take-at, drop-at, drop-length, ge
 use borrow.Rule.Slice.PartMut.{putMid, post-is}
 
 module _ {A : Type 0} where
-  -- the left one of two lists
-  pub getD-left : (xs ys : List A) (i : ℕ) (d : A) → i < length xs → getD (xs ++ ys) i d ≡ getD xs i d
-  getD-left xs ys i d h =
-      sym (getD-take (length xs) (xs ++ ys) i d h) ∙ ap (λ l. getD l i d) (take-append-seam xs ys)
-
   -- the places from a to e were lent and hold `part` now: up to e there is what was there up to a, then the part
   pub take-put : (l part : List A) (a e : ℕ) → a ≤ e → e ≤ length l → length part ≡ e - a → take e (putMid a (e - a) l part) ≡ take a l ++ part
   take-put l part a e h k p =

@@ -1,2 +1,1 @@
 pub mod PackingLaws
-pub mod Turns

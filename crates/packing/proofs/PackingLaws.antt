@@ -6,12 +6,13 @@ use Prim.Native.Nat.{ℕ, _+_, _*_, _/_, _<_}
 use native.Mathlib.Omega.{arith}
 use lib.ListN.{length, getD}
 use Rattle.lists.specs.Tab.{tab}
+use Rattle.lists.specs.Below.{Below}
 use Rattle.lists.proofs.Flat.{length-flat, flat-at, flat-of}
 use Rattle.lists.proofs.TabLaws.{tab-cong}
 use Rattle.residue.specs.Large.{firstLarge}
 use Rattle.residue.specs.Residues.{Residues}
 use Rattle.residue.proofs.LargeLaws.{residues-of, none-large}
-use Rattle.packing.specs.Packing.{threeBytes, packed, twoGroups, groups, Bytes}
+use Rattle.packing.specs.Packing.{threeBytes, packed, twoGroups, groups}
 
 -- ---- lengths, and what stands at a place
 
@@ -76,16 +77,16 @@ groups-packed k v e low = rw count (ap flatten (tab-cong k pair) ∙ sym (flat-o
         ∙ ap (λ j. getD v j 0 ∷ getD v (2 * i + 1) 0 ∷ []) (omega arith)
 
 -- packing undoes unpacking, of bytes
-pub packed-groups : (k : ℕ) {bs : List ℕ} → Bytes (3 * k) bs → packed (groups bs) ≡ bs
+pub packed-groups : (k : ℕ) (bs : List ℕ) → length bs ≡ 3 * k → Below 256 bs → packed (groups bs) ≡ bs
 unfolding packed tab
-packed-groups k {bs} r = rw count (ap flatten (tab-cong k three) ∙ sym (flat-of 3 k bs (r .long)))
+packed-groups k bs e bytes = rw count (ap flatten (tab-cong k three) ∙ sym (flat-of 3 k bs e))
   where
     count : length (groups bs) / 2 ≡ k
-    count = omega (arith, length-groups bs, r .long)
+    count = omega (arith, length-groups bs, e)
 
     three : (i : ℕ) → i < k → threeBytes (getD (groups bs) (2 * i) 0) (getD (groups bs) (2 * i + 1) 0) ≡ tab 3 (λ r. getD bs (3 * i + r) 0)
     three i h =
-        bytes-pair (r .low (3 * i) (omega arith)) (r .low (3 * i + 1) (omega arith)) (groups-at bs i (omega (arith, r .long)))
+        bytes-pair (bytes .low (3 * i)) (bytes .low (3 * i + 1)) (groups-at bs i (omega (arith, e)))
         ∙ ap (λ j. getD bs j 0 ∷ getD bs (3 * i + 1) 0 ∷ getD bs (3 * i + 2) 0 ∷ []) (omega arith)
 
 -- unpacking undoes packing: residues come back, and none of them is refused
@@ -95,6 +96,6 @@ unpack-pack k {v} r =
     (e, ap firstLarge e ∙ none-large r)
 
 -- and takes nothing else: bytes of which no group is refused are packed residues
-pub pack-unpack : (k : ℕ) {bs : List ℕ} → Bytes (3 * k) bs → firstLarge (groups bs) ≡ 2 * k
+pub pack-unpack : (k : ℕ) {bs : List ℕ} → length bs ≡ 3 * k → Below 256 bs → firstLarge (groups bs) ≡ 2 * k
     → Residues (2 * k) (groups bs) × (packed (groups bs) ≡ bs)
-pack-unpack k {bs} r none = (residues-of (groups bs) (omega (arith, length-groups bs, r .long)) none, packed-groups k r)
+pack-unpack k {bs} e bytes none = (residues-of (groups bs) (omega (arith, length-groups bs, e)) none, packed-groups k bs e bytes)

@@ -1,8 +1,7 @@
 -- Packing: pairs of residues as three bytes, and the 12-bit groups that three bytes hold.
 -- Assumes nothing: these are definitions.
-use mathlib.Core.Path.{_≡_}
 use mathlib.Core.List.{List, [], _∷_, flatten}
-use Prim.Native.Nat.{ℕ, _+_, _*_, _/_, _%_, _<_}
+use Prim.Native.Nat.{ℕ, _+_, _*_, _/_, _%_}
 use lib.ListN.{length, getD}
 use Rattle.lists.specs.Tab.{tab}
 
@@ -21,8 +20,3 @@ twoGroups x y z = (x + 256 * (y % 16)) ∷ (y / 16 + 16 * z) ∷ []
 -- the groups of a list of bytes, in order
 unfoldable pub groups : List ℕ → List ℕ
 groups bs = flatten (tab (length bs / 3) (λ i. twoGroups (getD bs (3 * i) 0) (getD bs (3 * i + 1) 0) (getD bs (3 * i + 2) 0)))
-
--- m bytes, each below 256
-pub record Bytes (m : ℕ) (bs : List ℕ) : Type 0 where
-  pub long : length bs ≡ m
-  pub low : (j : ℕ) → j < m → getD bs j 0 < 256

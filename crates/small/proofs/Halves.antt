@@ -5,13 +5,12 @@ use mathlib.Core.List.{List, _++_, map}
 use Prim.Native.Nat.{ℕ, _+_, _*_, _/_, _%_, _<_}
 use native.Mathlib.Omega.{arith}
 use lib.IntN.{pos, _-ℤ_}
-use lib.ListN.{length, getD, length-append, length-drop, length-map, List·getD-map}
+use lib.ListN.{length, getD, length-append, length-drop, length-map, List·getD-append, List·getD-map}
 use lib.Seq.{length-take-le, getD-append-add}
 use Rattle.lists.specs.Tab.{tab}
 use Rattle.lists.specs.Below.{Below}
 use Rattle.lists.proofs.TabLaws.{tab-cong, map-tab}
 use Rattle.lists.proofs.BelowLaws.{below-append}
-use Rattle.lists.proofs.Parts.{getD-left}
 use Rattle.residue.specs.Signed.{residueOf}
 use Rattle.bits.specs.Listing.{listed, unlisted}
 use Rattle.bits.proofs.ListingLaws.{length-listed, below-listed}
@@ -50,7 +49,7 @@ module _ (block : List ℕ) (words : length block % 8 ≡ 0) where
     -- its bits i and n + i are bit i of the first half and of the second
     bit-first : (i : ℕ) → i < 4 * length block → getD halves i 0 ≡ firstBit block i
     unfolding firstBit
-    bit-first i h = ap (λ l. getD l i 0) is ∙ getD-left (listed (firstHalf block)) (listed (secondHalf block)) i 0 (omega (arith, length-first))
+    bit-first i h = ap (λ l. getD l i 0) is ∙ List·getD-append (listed (firstHalf block)) (listed (secondHalf block)) 0 i (omega (arith, length-first))
 
     bit-second : (i : ℕ) → getD halves (4 * length block + i) 0 ≡ secondBit block i
     unfolding secondBit

@@ -6,10 +6,9 @@ use native.Mathlib.Omega.{arith}
 use lib.ListN.{length, getD, length-set}
 use denote.Ref.{now}
 use borrow.Author.Needs.{needs}
-use Rattle.lists.proofs.Fill.{Fill, fill-start}
+use Rattle.lists.proofs.Fill.{Fill, fill-start, fill-two, fill-list}
 use Rattle.packing.specs.Packing.{twoGroups, groups}
 use Rattle.packing.proofs.PackingLaws.{length-groups, groups-at, nth}
-use Rattle.packing.proofs.Turns.{fill-two, fill-list}
 use Rattle.packing.proofs.unpack_pairs.Statement.{statement}
 use Rattle.packing.proofs.unpack_pairs.Tie as tie
 
