@@ -24,11 +24,12 @@ pub length-unlistedBlock : (B : ℕ) (v : List ℕ) → length (unlistedBlock B 
 unfolding unlistedBlock
 length-unlistedBlock B v = length-tab (B / 8) _
 
+-- bits, and bytes from bits
 pub below-listedBlock : (B : ℕ) (bs : List ℕ) → Below 2 (listedBlock B bs)
 unfolding listedBlock bitOf
 below-listedBlock B bs = below-tab (omega arith) B _ (λ p. bit-lt _ _)
 
-pub below-unlistedBlock : (B : ℕ) (v : List ℕ) → Below 2 v → Below 256 (unlistedBlock B v)
+below-unlistedBlock : (B : ℕ) (v : List ℕ) → Below 2 v → Below 256 (unlistedBlock B v)
 unfolding unlistedBlock
 below-unlistedBlock B v bits = below-tab (omega arith) (B / 8) _ (λ i. number-lt 8 _ (λ b. bits .low _))
 
@@ -40,7 +41,7 @@ module _ (B : ℕ) (words : B % 32 ≡ 0) where
       getD-tab B (λ p. bitOf bs (comesFrom B p)) (goesTo B t) 0 (goesTo-lt B words t h) ∙ ap (bitOf bs) (comesFrom-goesTo B words t h)
 
   -- and comes back from there
-  pub unlistedBlock-at : (v : List ℕ) → Below 2 v → (t : ℕ) → t < B → bitOf (unlistedBlock B v) t ≡ getD v (goesTo B t) 0
+  unlistedBlock-at : (v : List ℕ) → Below 2 v → (t : ℕ) → t < B → bitOf (unlistedBlock B v) t ≡ getD v (goesTo B t) 0
   unfolding unlistedBlock
   unlistedBlock-at v bits t h =
       let e : 8 * (t / 8) + t % 8 ≡ t = omega arith in
@@ -49,6 +50,7 @@ module _ (B : ℕ) (words : B % 32 ≡ 0) where
       ∙ bit-number 8 (λ b. getD v (goesTo B (8 * (t / 8) + b)) 0) (λ b. bits .low _) (t % 8) (omega arith)
       ∙ ap (λ k. getD v (goesTo B k) 0) e
 
+  -- bytes to bits and back
   pub unlistedBlock-listedBlock : (bs : List ℕ) → length bs ≡ B / 8 → Below 256 bs → unlistedBlock B (listedBlock B bs) ≡ bs
   unfolding unlistedBlock
   unlistedBlock-listedBlock bs long bytes =
@@ -61,6 +63,7 @@ module _ (B : ℕ) (words : B % 32 ≡ 0) where
           let f : (8 * i + b) % 8 ≡ b = omega arith in
           listedBlock-at bs (8 * i + b) (omega arith) ∙ bitOf-byte bs bytes (8 * i + b) ∙ rw (e, f)
 
+  -- bits to bytes and back
   pub listedBlock-unlistedBlock : (v : List ℕ) → length v ≡ B → Below 2 v → listedBlock B (unlistedBlock B v) ≡ v
   unfolding listedBlock
   listedBlock-unlistedBlock v long bits =

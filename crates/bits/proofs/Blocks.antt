@@ -1,6 +1,6 @@
 -- The cutting of n bits into blocks, once over the length of a block: the first block, whole words, n bits in all.
 -- Assumes nothing.
-use mathlib.Core.Path.{_≡_, refl, sym, ap, _∙_, subst}
+use mathlib.Core.Path.{_≡_, refl, sym, ap, _∙_}
 use mathlib.Core.List.{List, [], _∷_, _++_}
 use Prim.Native.Nat.{ℕ, zero, suc, _+_, _-_, _*_, _/_, _%_, _<_, _≤_}
 use native.Mathlib.Nat.{div-eq-of-lt, mod-eq-of-lt, div-eq-sub-div, mod-eq-sub-mod, div-add-mod', suc-mul}
@@ -61,11 +61,13 @@ unfoldable pub total : (ℕ → ℕ) → List ℕ → ℕ
 total f [] = 0
 total f (B ∷ Bs) = f B + total f Bs
 
+-- k blocks of B bits, and then others
 words-some : (k B : ℕ) (Bs : List ℕ) → B % 32 ≡ 0 → Words Bs → Words (replicate k B ++ Bs)
 unfolding Words
 words-some zero B Bs w h = h
 words-some (suc k) B Bs w h = (w, words-some k B Bs w h)
 
+-- so a cutting into lengths that are whole words is whole words
 words-cut : (Bs : List ℕ) (n : ℕ) → Words Bs → Words (cut Bs n)
 unfolding Words cut
 words-cut [] n w = tt
@@ -86,6 +88,7 @@ unfoldable left : List ℕ → ℕ → ℕ
 left [] n = n
 left (B ∷ Bs) n = left Bs (n % B)
 
+-- with those over, the blocks are n bits
 total-cut : (Bs : List ℕ) (n : ℕ) → total (λ B. B) (cut Bs n) + left Bs n ≡ n
 unfolding cut left total
 total-cut [] n = omega arith

@@ -14,6 +14,7 @@ use Rattle.bits.specs.Blocks.{blocks, blockwise}
 use Rattle.bits.proofs.Blocks.{Words, total, blocks-none}
 
 module _ (step : ℕ → List ℕ → List ℕ) (takes gives : ℕ → ℕ) (sized : (B : ℕ) (xs : List ℕ) → length (step B xs) ≡ gives B) where
+  -- each block gives its own
   pub length-blockwise : (Bs xs : List ℕ) → length (blockwise step takes Bs xs) ≡ total gives Bs
   unfolding blockwise total
   length-blockwise [] xs = refl
@@ -39,6 +40,7 @@ module _ (step : ℕ → List ℕ → List ℕ) (takes gives : ℕ → ℕ) (siz
       (blockwise-undo back m undo Bs (w .1) (drop (takes B) xs) (omega (arith, length-drop (takes B) xs)) (below-drop (takes B) xs low))
       ∙ take-append-drop (takes B) xs
 
+-- what each block gives is below m
 pub below-blockwise : (step : ℕ → List ℕ → List ℕ) (takes : ℕ → ℕ) (m : ℕ) → 0 < m → ((B : ℕ) (xs : List ℕ) → Below m (step B xs))
     → (Bs xs : List ℕ) → Below m (blockwise step takes Bs xs)
 unfolding blockwise

@@ -14,16 +14,17 @@ use Rattle.bits.specs.Bits.{bit, number, littleEndian, word, bitOf}
 
 -- ---- one bit
 
+-- it is 0 or 1
 pub bit-lt : (x i : ℕ) → bit x i < 2
 unfolding bit
 bit-lt x i = mod-lt (x / 2 ^ i) (omega arith)
 
 -- the lowest bit, and the one after i
-pub bit-zero : (x : ℕ) → bit x 0 ≡ x % 2
+bit-zero : (x : ℕ) → bit x 0 ≡ x % 2
 unfolding bit
 bit-zero x = omega arith
 
-pub bit-suc : (x i : ℕ) → bit x (suc i) ≡ bit (x / 2) i
+bit-suc : (x i : ℕ) → bit x (suc i) ≡ bit (x / 2) i
 unfolding bit
 bit-suc x i = let e : suc i ≡ 1 + i = omega arith in ap (λ k. x / 2 ^ k % 2) e ∙ ap (λ y. y % 2) (sym (shr-shr x 1 i))
 
@@ -33,33 +34,36 @@ bit-suc x i = let e : suc i ≡ 1 + i = omega arith in ap (λ k. x / 2 ^ k % 2) 
 twice : (w y : ℕ) → 2 ^ suc w * y ≡ 2 * (2 ^ w * y)
 twice w y = ap (λ p. p * y) (pow-suc 2 w ∙ mul-comm (2 ^ w) 2) ∙ mul-assoc 2 (2 ^ w) y
 
+-- so it is halved term by term
 half : (w x y : ℕ) → (x + 2 ^ suc w * y) / 2 ≡ x / 2 + 2 ^ w * y
 half w x y = omega (arith, twice w y)
 
 -- below bit w there are the bits of the low part
-pub bit-low : (w x y b : ℕ) → b < w → bit (x + 2 ^ w * y) b ≡ bit x b
+bit-low : (w x y b : ℕ) → b < w → bit (x + 2 ^ w * y) b ≡ bit x b
 bit-low zero x y b h = absurd (omega arith)
 bit-low (suc w) x y zero h = bit-zero _ ∙ omega (arith, twice w y) ∙ sym (bit-zero x)
 bit-low (suc w) x y (suc b) h =
     bit-suc _ b ∙ ap (λ z. bit z b) (half w x y) ∙ bit-low w (x / 2) y b (omega arith) ∙ sym (bit-suc x b)
 
 -- from bit w on those of the high part
-pub bit-high : (w x y b : ℕ) → x < 2 ^ w → bit (x + 2 ^ w * y) (w + b) ≡ bit y b
+bit-high : (w x y b : ℕ) → x < 2 ^ w → bit (x + 2 ^ w * y) (w + b) ≡ bit y b
 bit-high zero x y b h = let e : x + 2 ^ 0 * y ≡ y = omega arith in ap (λ z. bit z (0 + b)) e ∙ ap (bit y) (omega arith)
 bit-high (suc w) x y b h =
     ap (bit (x + 2 ^ suc w * y)) (suc-add w b) ∙ bit-suc _ (w + b) ∙ ap (λ z. bit z (w + b)) (half w x y) ∙ bit-high w (x / 2) y b (omega (arith, pow-suc 2 w))
 
 -- ---- a number put together from bits
 
+-- its two clauses
 module _ (f : ℕ → ℕ) where
   pub number-zero : number 0 f ≡ 0
   unfolding number
   number-zero = refl
 
-  pub number-suc : (w : ℕ) → number (suc w) f ≡ f 0 + 2 * number w (λ i. f (suc i))
+  number-suc : (w : ℕ) → number (suc w) f ≡ f 0 + 2 * number w (λ i. f (suc i))
   unfolding number
   number-suc w = refl
 
+-- it reads the first w bits only
 pub number-cong : (w : ℕ) (f g : ℕ → ℕ) → ((i : ℕ) → i < w → f i ≡ g i) → number w f ≡ number w g
 unfolding number
 number-cong zero f g e = refl
@@ -97,7 +101,7 @@ number-bit (suc w) x h =
 -- ---- little-endian bytes
 
 -- bit i of m bytes is bit i mod 8 of byte i div 8
-pub bit-little : (bs : List ℕ) → Below 256 bs → (m k i : ℕ) → i < 8 * m → bit (littleEndian m bs k) i ≡ bit (getD bs (k + i / 8) 0) (i % 8)
+bit-little : (bs : List ℕ) → Below 256 bs → (m k i : ℕ) → i < 8 * m → bit (littleEndian m bs k) i ≡ bit (getD bs (k + i / 8) 0) (i % 8)
 unfolding littleEndian
 bit-little bs bytes zero k i h = absurd (omega arith)
 bit-little bs bytes (suc m) k i h = by (decLt i 8) (bit-little bs bytes m (suc k) (i - 8))
@@ -117,6 +121,7 @@ bit-little bs bytes (suc m) k i h = by (decLt i 8) (bit-little bs bytes m (suc k
         ∙ r (omega arith)
         ∙ ap (λ j. bit (getD bs j 0) ((i - 8) % 8)) f ∙ ap (bit (getD bs (k + i / 8) 0)) g
 
+-- two bytes written out
 little-two : (bs : List ℕ) (k : ℕ) → littleEndian 2 bs k ≡ getD bs k 0 + 256 * getD bs (k + 1) 0
 unfolding littleEndian
 little-two bs k = let e : suc k ≡ k + 1 = omega arith in ap (λ i. getD bs k 0 + 256 * (getD bs i 0 + 256 * 0)) e ∙ omega arith

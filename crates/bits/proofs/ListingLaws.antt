@@ -1,6 +1,6 @@
 -- The listing and its reverse undo each other on whole words; their lengths, bits and bytes.
 -- Assumes nothing.
-use mathlib.Core.Path.{_≡_, refl, sym, ap, _∙_}
+use mathlib.Core.Path.{_≡_, sym, ap, _∙_}
 use mathlib.Core.List.{List}
 use Prim.Native.Nat.{ℕ, _*_, _/_, _%_}
 use native.Mathlib.Omega.{arith}
@@ -31,6 +31,7 @@ module _ (bs : List ℕ) (words : length bs % 4 ≡ 0) where
       ∙ blockwise-undo listedBlock (λ B. B / 8) (λ B. B) length-listedBlock unlistedBlock 256 unlistedBlock-listedBlock
       (blocks (8 * length bs)) (blocks-words (8 * length bs)) bs (omega (arith, bytes-total (8 * length bs) (omega arith))) bytes
 
+-- they are bits
 pub below-listed : (bs : List ℕ) → Below 2 (listed bs)
 unfolding listed
 below-listed bs = below-blockwise listedBlock (λ B. B / 8) 2 (omega arith) below-listedBlock (blocks (8 * length bs)) bs

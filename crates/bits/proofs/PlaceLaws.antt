@@ -2,13 +2,13 @@
 -- Assumes nothing.
 use mathlib.Core.Path.{_≡_, refl, sym, ap, _∙_, subst}
 use mathlib.Core.List.{List, [], _∷_, _++_}
-use Prim.Native.Nat.{ℕ, zero, suc, _+_, _-_, _*_, _/_, _%_, _<_, _≤_}
+use Prim.Native.Nat.{ℕ, _+_, _*_, _/_, _%_, _<_}
 use native.Mathlib.Omega.{arith}
 use lib.ListN.{length, getD, take, drop, List·getD-append}
 use lib.Seq.{getD-append-add, getD-take, getD-drop}
 use Rattle.lists.specs.Below.{Below}
 use Rattle.lists.proofs.BelowLaws.{below-take, below-drop}
-use Rattle.bits.specs.Bits.{bit, word, littleEndian, bitOf}
+use Rattle.bits.specs.Bits.{bit, word, bitOf}
 use Rattle.bits.specs.Blocks.{blocks, blockwise}
 use Rattle.bits.specs.Listing.{place, goesTo, listedBlock, listed}
 use Rattle.bits.proofs.Digits.{bitOf-byte}
@@ -20,10 +20,11 @@ use Rattle.bits.proofs.Places.{goesTo-lt}
 abbrev pub start : List ℕ → ℕ
 start Bs = total (λ B. B) Bs
 
-abbrev pub listedBy : List ℕ → List ℕ → List ℕ
+-- the listing by any blocks
+abbrev listedBy : List ℕ → List ℕ → List ℕ
 listedBy Bs bs = blockwise listedBlock (λ B. B / 8) Bs bs
 
--- bit t of some bytes of a run
+-- without the first a bytes, bit t is bit 8a + t
 bitOf-drop : (a : ℕ) (bs : List ℕ) → Below 256 bs → (t : ℕ) → bitOf (drop a bs) t ≡ bitOf bs (8 * a + t)
 bitOf-drop a bs bytes t =
     let e : a + t / 8 ≡ (8 * a + t) / 8 = omega arith in
@@ -31,6 +32,7 @@ bitOf-drop a bs bytes t =
     bitOf-byte (drop a bs) (below-drop a bs bytes) t ∙ ap (λ x. bit x (t % 8)) (getD-drop a bs (t / 8) 0)
     ∙ ap (λ i. bit (getD bs i 0) (t % 8)) e ∙ ap (bit (getD bs ((8 * a + t) / 8) 0)) f ∙ sym (bitOf-byte bs bytes (8 * a + t))
 
+-- the first bytes have the first bits
 bitOf-take : (a : ℕ) (bs : List ℕ) → Below 256 bs → (t : ℕ) → t < 8 * a → bitOf (take a bs) t ≡ bitOf bs t
 bitOf-take a bs bytes t h =
     bitOf-byte (take a bs) (below-take a bs bytes) t ∙ ap (λ x. bit x (t % 8)) (getD-take a bs (t / 8) 0 (omega arith))
@@ -75,9 +77,11 @@ place-from s B j k l hk hl =
 
 -- a block of the cutting, with the blocks before and after it
 module _ (bs : List ℕ) (bytes : Below 256 bs) (before : List ℕ) (B : ℕ) (after : List ℕ) (is : blocks (8 * length bs) ≡ before ++ B ∷ after) where
+  -- it is whole words
   words : Words (before ++ B ∷ after)
   words = subst Words is (blocks-words (8 * length bs))
 
+  -- bit t of the block goes to its place in the block
   pub listed-at : (t : ℕ) → t < B → getD (listed bs) (start before + goesTo B t) 0 ≡ bitOf bs (start before + t)
   unfolding listed
   listed-at t h = ap (λ Bs. getD (listedBy Bs bs) (start before + goesTo B t) 0) is ∙ listedBy-at before B after words bs bytes t h

@@ -28,6 +28,7 @@ row-ends B l w h =
     omega (arith, row-next l (B / 16))
 
 module _ (B : ℕ) (words : B % 32 ≡ 0) where
+  -- there are 16 rows
   row-lt : (p : ℕ) → p < B → p / (B / 16) < 16
   row-lt p h = let e : B ≡ 16 * (B / 16) = omega arith in div-lt-iff-lt-mul {k = B / 16} (omega arith) .1 (subst (λ b. p < b) e h)
 

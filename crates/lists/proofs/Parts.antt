@@ -2,10 +2,10 @@
 -- Assumes nothing.
 use mathlib.Core.Path.{_≡_, sym, ap, _∙_}
 use mathlib.Core.List.{List, _++_, append-assoc, append-nil}
-use Prim.Native.Nat.{ℕ, _-_, _≤_, _<_}
+use Prim.Native.Nat.{ℕ, _-_, _≤_}
 use native.Mathlib.Omega.{arith}
-use lib.ListN.{length, getD, take, drop, length-append}
-use lib.Seq.{length-take-le, take-append-seam, take-at, drop-at, drop-length, getD-take}
+use lib.ListN.{length, take, drop, length-append}
+use lib.Seq.{length-take-le, take-at, drop-at, drop-length}
 use borrow.Rule.Slice.PartMut.{putMid, post-is}
 
 module _ {A : Type 0} where

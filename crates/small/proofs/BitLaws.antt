@@ -1,7 +1,6 @@
 -- The laws of single bits, each by trying all of them.
 -- Assumes nothing.
 use mathlib.Core.Path.{_≡_, refl}
-use mathlib.Core.Bool.{cond}
 use Prim.Native.Nat.{ℕ, zero, suc, _+_, _/_, _%_, _<_, _≤_}
 use native.Mathlib.Omega.{arith}
 use lib.Bits.{bitXor}
@@ -17,6 +16,7 @@ bit P p0 p1 zero h = p0
 bit P p0 p1 (suc zero) h = p1
 bit P p0 p1 (suc (suc a)) h = absurd (omega arith)
 
+-- and of each two
 bits : (P : ℕ → ℕ → Type 0) → P 0 0 → P 0 1 → P 1 0 → P 1 1 → (a b : ℕ) → a < 2 → b < 2 → P a b
 bits P p00 p01 p10 p11 a b ha hb = bit (λ a. P a b) (bit (P 0) p00 p01 b hb) (bit (P 1) p10 p11 b hb) a ha
 
@@ -29,6 +29,7 @@ pub xor-sum : (a b : ℕ) → a < 2 → b < 2 → xor a b ≡ (a + b) % 2
 unfolding xor
 xor-sum = bits (λ a b. xor a b ≡ (a + b) % 2) refl refl refl refl
 
+-- it is a bit
 pub xor-lt : (a b : ℕ) → xor a b < 2
 unfolding xor
 xor-lt a b = cond-both (λ x. x < 2) (eqb a b) (omega arith) (omega arith)
@@ -46,6 +47,7 @@ decodeBit-mark (suc zero) a b h = bits (λ a b. bitXor ((1 + b) % 2) a ≡ decod
 decodeBit-mark (suc (suc zero)) a b h = bits (λ a b. bitXor ((3 + b) % 2) a ≡ decodeBit (ofMark 2) a b) refl refl refl refl a b
 decodeBit-mark (suc (suc (suc m))) a b h = absurd (omega arith)
 
+-- what is decoded is a bit
 pub decodeBit-lt : (c : ℤ) (a b : ℕ) → decodeBit c a b < 2
 unfolding decodeBit
 decodeBit-lt c a b = xor-lt _ a

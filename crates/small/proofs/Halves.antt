@@ -18,11 +18,13 @@ use Rattle.small.specs.Marks.{ofMark}
 use Rattle.small.specs.Sampling.{firstHalf, secondHalf, firstBit, secondBit, sampled}
 use Rattle.small.specs.Encoding.{encodeBit, decodeBit, encoded, decoded}
 
+-- what mark i stands for
 mark-at : (marks : List ℕ) (i : ℕ) → ofMark (getD marks i 0) ≡ getD (map ofMark marks) i (pos 0)
 unfolding ofMark
 mark-at marks i = sym (List·getD-map ofMark marks i 0)
 
 module _ (block : List ℕ) (words : length block % 8 ≡ 0) where
+  -- n/8 bytes each
   first-words : length (firstHalf block) ≡ length block / 2
   unfolding firstHalf
   first-words = length-take-le (length block / 2) block (omega arith)
@@ -40,6 +42,7 @@ module _ (block : List ℕ) (words : length block % 8 ≡ 0) where
 
   -- the room that holds both
   module _ (halves : List ℕ) (is : halves ≡ listed (firstHalf block) ++ listed (secondHalf block)) where
+    -- 2n places, all bits
     pub halves-long : length halves ≡ 8 * length block
     halves-long = ap length is ∙ length-append (listed (firstHalf block)) (listed (secondHalf block)) ∙ omega (arith, length-first, length-second)
 
@@ -63,6 +66,7 @@ module _ (block : List ℕ) (words : length block % 8 ≡ 0) where
     step-is n e f =
         tab-cong n (λ i h. ap (λ a. f i a (getD halves (n + i) 0)) (bit-first i (omega arith)) ∙ ap (f i (firstBit block i)) (ap (λ k. getD halves (k + i) 0) e ∙ bit-second i))
 
+    -- and the three steps are sampling, encoding and decoding
     pub sampled-is : (n : ℕ) → n ≡ 4 * length block
         → tab n (λ i. residueOf (pos (getD halves i 0) -ℤ pos (getD halves (n + i) 0))) ≡ map residueOf (sampled block)
     unfolding sampled

@@ -5,7 +5,8 @@ use mathlib.Core.List.{List, [], _∷_, map}
 use Prim.Native.Nat.{ℕ, zero, suc, _%_, _<_}
 use native.Mathlib.Omega.{arith}
 use lib.IntN.{ℤ, pos, negsuc, negℤ}
-use Rattle.residue.specs.Signed.{aroundZero, byThree}
+use Rattle.residue.specs.Field.{negq}
+use Rattle.residue.specs.Signed.{aroundZero, byThree, residueOf}
 use Rattle.small.specs.Marks.{Small, markOf, ofMark, Smalls}
 
 -- what holds of 0, 1 and -1 holds of each small number
@@ -16,6 +17,11 @@ small-by P a b c (pos (suc zero)) h = b
 small-by P a b c (pos (suc (suc n))) h = absurd (omega (arith, h))
 small-by P a b c (negsuc zero) h = c
 small-by P a b c (negsuc (suc n)) h = absurd (omega (arith, h))
+
+-- -1 is residue 3456 and mark 2
+pub minus-one : (residueOf (negsuc 0) ≡ 3456) × (markOf (negsuc 0) ≡ 2)
+unfolding residueOf negq markOf
+minus-one = (refl, refl)
 
 -- the mark of a small number is below 3, and stands for it
 pub markOf-lt : (z : ℤ) → Small z → markOf z < 3
@@ -44,6 +50,7 @@ negℤ-small : (z : ℤ) → Small z → Small (negℤ z)
 unfolding Small
 negℤ-small = small-by (λ z. Small (negℤ z)) (omega arith) (omega arith) (omega arith)
 
+-- and so what is taken by 3
 pub byThree-small : (z : ℤ) → Small (byThree z)
 unfolding byThree
 byThree-small (pos n) = aroundZero-small (n % 3)

@@ -4,7 +4,7 @@ use mathlib.Core.Path.{_≡_, refl, sym, ap, _∙_}
 use mathlib.Core.List.{List}
 use Prim.Native.Nat.{ℕ, _*_, _%_, _<_}
 use native.Mathlib.Omega.{arith}
-use lib.IntN.{pos, _-ℤ_}
+use lib.IntN.{pos}
 use lib.ListN.{length, getD}
 use Rattle.lists.specs.Tab.{tab}
 use Rattle.lists.specs.Below.{Below}
@@ -18,6 +18,7 @@ use Rattle.small.proofs.BitLaws.{xor-lt, difference-small, decodeBit-en
 
 -- ---- the bits of a block
 
+-- each is 0 or 1
 pub firstBit-lt : (block : List ℕ) (i : ℕ) → firstBit block i < 2
 unfolding firstBit
 firstBit-lt block i = below-listed _ .low i
@@ -28,6 +29,7 @@ secondBit-lt block i = below-listed _ .low i
 
 -- ---- lengths, and small coefficients
 
+-- n coefficients from n/4 bytes, and from a message of n/8
 pub length-sampled : (block : List ℕ) → length (sampled block) ≡ 4 * length block
 unfolding sampled
 length-sampled block = length-tab (4 * length block) _
@@ -36,6 +38,7 @@ pub length-encoded : (message block : List ℕ) → length (encoded message bloc
 unfolding encoded
 length-encoded message block = length-tab (8 * length message) _
 
+-- each is -1, 0 or 1
 pub smalls-sampled : (block : List ℕ) → Smalls (sampled block)
 unfolding sampled
 smalls-sampled block =
@@ -49,6 +52,7 @@ smalls-encoded message block =
 -- ---- decoding what was encoded with the same block
 
 module _ (message block : List ℕ) (words : length message % 4 ≡ 0) where
+  -- bit by bit
   bit-back : (i : ℕ) → i < 8 * length message
       → decodeBit (getD (encoded message block) i (pos 0)) (firstBit block i) (secondBit block i) ≡ getD (listed message) i 0
   unfolding encoded
@@ -56,6 +60,7 @@ module _ (message block : List ℕ) (words : length message % 4 ≡ 0) where
       ap (λ c. decodeBit c (firstBit block i) (secondBit block i)) (getD-tab (8 * length message) _ i (pos 0) h)
       ∙ decodeBit-encodeBit (getD (listed message) i 0) (firstBit block i) (secondBit block i) (below-listed message .low i) (firstBit-lt block i) (secondBit-lt block i)
 
+  -- the message comes back, whatever the block
   pub decoded-encoded : Below 256 message → decoded (encoded message block) block ≡ message
   unfolding decoded
   decoded-encoded bytes =

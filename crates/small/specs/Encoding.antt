@@ -14,15 +14,15 @@ use Rattle.small.specs.Sampling.{firstBit, secondBit}
 unfoldable pub xor : ℕ → ℕ → ℕ
 xor a b = cond (eqb a b) 0 1
 
--- "Encoding takes a message of n/8 bytes and n/4 bytes, the message and each half through the listing by themselves:
--- coefficient i is (message bit XOR first-half bit) - second-half bit."
+-- "coefficient i is (message bit XOR first-half bit) - second-half bit"
 unfoldable pub encodeBit : ℕ → ℕ → ℕ → ℤ
 encodeBit m a b = pos (xor m a) -ℤ pos b
 
+-- "Encoding .. takes a message of n/8 bytes and n/4 bytes, the message and each half through the listing by themselves"
 unfoldable pub encoded : List ℕ → List ℕ → List ℤ
 encoded message block = tab (8 * length message) (λ i. encodeBit (getD (listed message) i 0) (firstBit block i) (secondBit block i))
 
--- "Decoding gives message bit i = ((coefficient + second-half bit) mod 2, as 0 or 1) XOR first-half bit"
+-- "Decoding .. gives message bit i = ((coefficient + second-half bit) mod 2, as 0 or 1) XOR first-half bit"
 unfoldable pub decodeBit : ℤ → ℕ → ℕ → ℕ
 decodeBit c a b = xor (natAbs (c +ℤ pos b) % 2) a
 

@@ -15,6 +15,7 @@ unfoldable pub markOf : ℤ → ℕ
 markOf (pos n) = n
 markOf (negsuc n) = 2
 
+-- and what a mark stands for
 unfoldable pub ofMark : ℕ → ℤ
 ofMark m = aroundZero m
 

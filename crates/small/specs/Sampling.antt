@@ -21,6 +21,6 @@ firstBit block i = getD (listed (firstHalf block)) i 0
 unfoldable pub secondBit : List ℕ → ℕ → ℕ
 secondBit block i = getD (listed (secondHalf block)) i 0
 
--- "Sampling takes n/4 bytes. .. coefficient i is (bit i of the first half) - (bit i of the second)."
+-- "Sampling .. takes n/4 bytes. .. coefficient i is (bit i of the first half) - (bit i of the second)."
 unfoldable pub sampled : List ℕ → List ℤ
 sampled block = tab (4 * length block) (λ i. pos (firstBit block i) -ℤ pos (secondBit block i))

@@ -5,7 +5,6 @@ ghost use mathlib.Core.List.{map};
 ghost use Prim.Native.Nat.{_<_};
 ghost use lib.ListN.{length};
 ghost use Rattle.lists.specs.Below.{Below};
-ghost use Rattle.residue.specs.Field.{q};
 ghost use Rattle.residue.specs.Residues.{Residues};
 ghost use Rattle.residue.specs.Signed.{centredByThree, residueOf};
 ghost use Rattle.small.specs.Marks.{Small, markOf, ofMark};

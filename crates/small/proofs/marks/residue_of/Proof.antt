@@ -3,7 +3,6 @@
 use mathlib.Core.Path.{_≡_, sym, ap, _∙_}
 use native.Mathlib.Omega.{arith}
 use borrow.Author.Needs.{needs}
-use Rattle.residue.specs.Field.{negq}
 use Rattle.residue.specs.Signed.{residueOf}
 use Rattle.small.specs.Marks.{ofMark}
 use Rattle.small.proofs.marks.residue_of.Statement.{statement}
