@@ -10,9 +10,11 @@ use Rattle.lists.specs.Below.{Below}
 use Rattle.lists.proofs.TabLaws.{all-tab}
 
 module _ {m : ℕ} where
+  -- no number at all
   pub below-nil : 0 < m → Below m []
   below-nil some = record { low = λ i. some }
 
+  -- one more number, and one less
   below-cons : {x : ℕ} {xs : List ℕ} → x < m → Below m xs → Below m (x ∷ xs)
   below-cons {x} {xs} a b = record { low = at }
     where
@@ -23,13 +25,16 @@ module _ {m : ℕ} where
   below-rest : {x : ℕ} {xs : List ℕ} → Below m (x ∷ xs) → Below m xs
   below-rest h = record { low = λ i. h .low (suc i) }
 
+  -- a table
   pub below-tab : 0 < m → (n : ℕ) (f : ℕ → ℕ) → ((i : ℕ) → f i < m) → Below m (tab n f)
   below-tab some n f h = record { low = all-tab (λ x. x < m) 0 some n f h }
 
+  -- one list after another
   pub below-append : (xs : List ℕ) {ys : List ℕ} → Below m xs → Below m ys → Below m (xs ++ ys)
   below-append [] a b = b
   below-append (x ∷ xs) a b = below-cons (a .low 0) (below-append xs (below-rest a) b)
 
+  -- the first k numbers, and the others
   pub below-take : (k : ℕ) (l : List ℕ) → Below m l → Below m (take k l)
   below-take zero l h = below-nil (omega (arith, h .low 0))
   below-take (suc k) [] h = h

@@ -19,6 +19,7 @@ pub record Fill (f : ℕ → ℕ) (n : ℕ) (l : List ℕ) (i : ℕ) : Type 0 wh
   pub long : length l ≡ n
   pub done : (k : ℕ) → k < i → getD l k 0 ≡ f k
 
+-- nothing is filled at the start
 pub fill-start : (f : ℕ → ℕ) {n : ℕ} {l : List ℕ} → length l ≡ n → Fill f n l 0
 fill-start f e = record { upto = omega arith; long = e; done = λ k h. absurd (omega arith) }
 

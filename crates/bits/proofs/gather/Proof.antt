@@ -20,7 +20,7 @@ Inv-loop bits at stride byte₀ from₀ counter₀ byte from counter =
 abbrev μ-loop : tie.MeasureT-loop
 μ-loop bits at stride byte₀ from₀ counter₀ byte from counter = 8 - counter
 
--- at the head of a turn: the place that it reads, and the byte so far
+-- at the head of a turn, the place that it reads is one stride back
 reads-at : (c : tie.In-loop Inv-loop μ-loop)
     → c .before .loop .from ≡ c .before .before .args .at + (8 - (c .before .loop .counter + 1)) * c .before .before .args .stride + c .before .before .args .stride
 reads-at c =
@@ -29,9 +29,11 @@ reads-at c =
     let e : 8 - k ≡ 8 - (k + 1) + 1 = omega (arith, c .loop-test .taken) in
     omega (arith, c .before .loop .inv .1, ap (λ m. m * stride) e, row-next (8 - (k + 1)) stride)
 
+-- and within the eight
 within : (c : tie.In-loop Inv-loop μ-loop) → (8 - (c .before .loop .counter + 1)) * c .before .before .args .stride ≤ 7 * c .before .before .args .stride
 within c = mul-le-mul-right (c .before .before .args .stride) (omega arith)
 
+-- the byte has room for another bit
 so-far : (c : tie.In-loop Inv-loop μ-loop) → c .before .loop .byte < 128
 so-far c =
     let s = c .before .before in
