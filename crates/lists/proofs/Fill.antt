@@ -1,8 +1,8 @@
--- The filling of a buffer by a loop, one, two or three places a turn, or a part: the invariant, its start, its turns and its end.
+-- The filling of a buffer by a loop, by places or by a part a turn: the invariant, its start, its turns and its end.
 -- Assumes nothing.
 use mathlib.Core.Path.{_≡_, refl, sym, ap, _∙_, subst}
 use mathlib.Core.List.{List, _++_}
-use Prim.Native.Nat.{ℕ, _+_, _-_, _*_, _≤_, _<_}
+use Prim.Native.Nat.{ℕ, _+_, _-_, _≤_, _<_}
 use native.Mathlib.Decide.{ℕ-discrete, decLt}
 use native.Mathlib.Nat.{add-sub-of-le}
 use native.Mathlib.Omega.{arith}
@@ -32,19 +32,9 @@ fill-turn {f} {n} {l} {i} r v h e =
     by k b (yes p) = rw p (getD-set-same l i v 0 (omega (arith, r .long)) ∙ e)
     by k b (no p) = getD-set-other l i k v 0 p ∙ r .done k (omega arith)
 
-module _ {f : ℕ → ℕ} {n : ℕ} {l : List ℕ} (k : ℕ) where
-  -- a turn that stores f (2 k) and f (2 k + 1)
-  pub fill-two : Fill f n l (2 * k) → (x y : ℕ) → 2 * k + 1 < n → x ≡ f (2 * k) → y ≡ f (2 * k + 1)
-      → Fill f n (set (set l (2 * k) x) (2 * k + 1) y) (2 * (k + 1))
-  fill-two r x y h ex ey = subst (Fill f n _) (omega arith) (fill-turn (fill-turn r x (omega arith) ex) y h ey)
-
-  -- a turn that stores f (3 k), f (3 k + 1) and f (3 k + 2)
-  pub fill-three : Fill f n l (3 * k) → (x y z : ℕ) → 3 * k + 2 < n → x ≡ f (3 * k) → y ≡ f (3 * k + 1) → z ≡ f (3 * k + 2)
-      → Fill f n (set (set (set l (3 * k) x) (3 * k + 1) y) (3 * k + 2) z) (3 * (k + 1))
-  fill-three r x y z h ex ey ez =
-      let two = fill-turn (fill-turn r x (omega arith) ex) y (omega arith) ey in
-      let at : 3 * k + 1 + 1 ≡ 3 * k + 2 = omega arith in
-      subst (Fill f n _) (omega arith) (fill-turn (subst (Fill f n _) at two) z h ez)
+-- how many are filled, written in another way: for a turn that stores several
+pub fill-as : {f : ℕ → ℕ} {n : ℕ} {l : List ℕ} {i : ℕ} → Fill f n l i → (j : ℕ) → i ≡ j → Fill f n l j
+fill-as {f} {n} {l} r j e = subst (Fill f n l) e r
 
 -- a turn lends the places from i to e, and they come back as f i, .., f (e - 1)
 pub fill-part : {f : ℕ → ℕ} {n : ℕ} {l : List ℕ} {i : ℕ} → Fill f n l i → (e : ℕ) (part : List ℕ) → i ≤ e → e ≤ n

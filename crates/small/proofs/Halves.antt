@@ -25,26 +25,26 @@ mark-at marks i = sym (List·getD-map ofMark marks i 0)
 
 module _ (block : List ℕ) (words : length block % 8 ≡ 0) where
   -- n/8 bytes each
-  first-words : length (firstHalf block) ≡ length block / 2
+  length-firstHalf : length (firstHalf block) ≡ length block / 2
   unfolding firstHalf
-  first-words = length-take-le (length block / 2) block (omega arith)
+  length-firstHalf = length-take-le (length block / 2) block (omega arith)
 
-  second-words : length (secondHalf block) ≡ length block / 2
+  length-secondHalf : length (secondHalf block) ≡ length block / 2
   unfolding secondHalf
-  second-words = length-drop (length block / 2) block ∙ omega arith
+  length-secondHalf = length-drop (length block / 2) block ∙ omega arith
 
   -- n bits of the first half, and n of the second
-  pub length-first : length (listed (firstHalf block)) ≡ 4 * length block
-  length-first = length-listed (firstHalf block) (omega (arith, first-words)) ∙ omega (arith, first-words)
+  pub length-first-bits : length (listed (firstHalf block)) ≡ 4 * length block
+  length-first-bits = length-listed (firstHalf block) (omega (arith, length-firstHalf)) ∙ omega (arith, length-firstHalf)
 
-  length-second : length (listed (secondHalf block)) ≡ 4 * length block
-  length-second = length-listed (secondHalf block) (omega (arith, second-words)) ∙ omega (arith, second-words)
+  length-second-bits : length (listed (secondHalf block)) ≡ 4 * length block
+  length-second-bits = length-listed (secondHalf block) (omega (arith, length-secondHalf)) ∙ omega (arith, length-secondHalf)
 
   -- the room that holds both
   module _ (halves : List ℕ) (is : halves ≡ listed (firstHalf block) ++ listed (secondHalf block)) where
     -- 2n places, all bits
     pub halves-long : length halves ≡ 8 * length block
-    halves-long = ap length is ∙ length-append (listed (firstHalf block)) (listed (secondHalf block)) ∙ omega (arith, length-first, length-second)
+    halves-long = ap length is ∙ length-append (listed (firstHalf block)) (listed (secondHalf block)) ∙ omega (arith, length-first-bits, length-second-bits)
 
     pub halves-low : Below 2 halves
     halves-low = subst (Below 2) (sym is) (below-append (listed (firstHalf block)) (below-listed _) (below-listed _))
@@ -52,12 +52,12 @@ module _ (block : List ℕ) (words : length block % 8 ≡ 0) where
     -- its bits i and n + i are bit i of the first half and of the second
     bit-first : (i : ℕ) → i < 4 * length block → getD halves i 0 ≡ firstBit block i
     unfolding firstBit
-    bit-first i h = ap (λ l. getD l i 0) is ∙ List·getD-append (listed (firstHalf block)) (listed (secondHalf block)) 0 i (omega (arith, length-first))
+    bit-first i h = ap (λ l. getD l i 0) is ∙ List·getD-append (listed (firstHalf block)) (listed (secondHalf block)) 0 i (omega (arith, length-first-bits))
 
     bit-second : (i : ℕ) → getD halves (4 * length block + i) 0 ≡ secondBit block i
     unfolding secondBit
     bit-second i =
-        ap (λ k. getD halves (k + i) 0) (sym length-first) ∙ ap (λ l. getD l (length (listed (firstHalf block)) + i) 0) is
+        ap (λ k. getD halves (k + i) 0) (sym length-first-bits) ∙ ap (λ l. getD l (length (listed (firstHalf block)) + i) 0) is
         ∙ getD-append-add (listed (firstHalf block)) (listed (secondHalf block)) i 0
 
     -- so a step on them is a step on those

@@ -7,7 +7,7 @@ use lib.ListN.{length, getD, length-set}
 use denote.Ref.{now}
 use borrow.Author.Needs.{needs}
 use Rattle.lists.specs.Tab.{tab}
-use Rattle.lists.proofs.Fill.{Fill, fill-start, fill-two, fill-end}
+use Rattle.lists.proofs.Fill.{Fill, fill-start, fill-turn, fill-as, fill-end}
 use Rattle.bits.specs.Bits.{number}
 use Rattle.bits.specs.Listing.{goesTo, unlistedBlock}
 use Rattle.bits.proofs.BlockLaws.{byte-is}
@@ -72,11 +72,10 @@ loop-again c =
     let k = u .loop .u in
     let r = room (c .before .before) in
     let f : ℕ → ℕ = λ i. number 8 (λ b. getD v (goesTo B (8 * i + b)) 0) in
-    let z : 2 * k + 0 ≡ 2 * k = omega arith in (
-      fill-two k (u .loop .inv .0) _ _ r (c .before .gather .ensures ∙ byte-is v B k 0 k (omega arith) (omega arith) ∙ ap f z)
-          (c .gather2 .ensures ∙ byte-is v B k 1 (8 * (B / 16) + k) (omega arith) (omega arith)),
-      omega (arith, c .before .before .loop-test .taken),
-    )
+    let z : 2 * k + 0 ≡ 2 * k = omega arith in
+    let low = fill-turn (u .loop .inv .0) _ (omega arith) (c .before .gather .ensures ∙ byte-is v B k 0 k (omega arith) (omega arith) ∙ ap f z) in
+    let high = fill-turn low _ r (c .gather2 .ensures ∙ byte-is v B k 1 (8 * (B / 16) + k) (omega arith) (omega arith)) in
+    (fill-as high (2 * (k + 1)) (omega arith), omega (arith, c .before .before .loop-test .taken))
 
 same-length : tie.Need-same-length Inv-loop μ-loop
 same-length c = search needs

@@ -6,7 +6,7 @@ use native.Mathlib.Omega.{arith}
 use lib.ListN.{length, getD, length-set}
 use denote.Ref.{now}
 use borrow.Author.Needs.{needs}
-use Rattle.lists.proofs.Fill.{Fill, fill-start, fill-three, fill-list}
+use Rattle.lists.proofs.Fill.{Fill, fill-start, fill-turn, fill-as, fill-list}
 use Rattle.residue.specs.Field.{q}
 use Rattle.packing.specs.Packing.{threeBytes, packed}
 use Rattle.packing.proofs.PackingLaws.{length-packed, packed-at, nth}
@@ -101,8 +101,12 @@ loop-again : tie.Need-loop-again Inv-loop μ-loop
 unfolding threeBytes
 loop-again c =
     let l = c .before .before .before in
-    let at = packed-at (now (l .before .args .list)) (l .loop .k) (omega arith) in
-    (omega arith, fill-three (l .loop .k) (l .loop .inv .1) _ _ _ (omega arith) (omega (arith, nth at 0)) (omega (arith, nth at 1)) (omega (arith, nth at 2)))
+    let k = l .loop .k in
+    let at = packed-at (now (l .before .args .list)) k (omega arith) in (
+      omega arith,
+      fill-as (fill-turn (fill-as (fill-turn (fill-turn (l .loop .inv .1) _ (omega arith) (omega (arith, nth at 0))) _ (omega arith) (omega (arith, nth at 1)))
+          (3 * k + 2) (omega arith)) _ (omega arith) (omega (arith, nth at 2))) (3 * (k + 1)) (omega arith),
+    )
 
 same-length : tie.Need-same-length Inv-loop μ-loop
 same-length c = search needs

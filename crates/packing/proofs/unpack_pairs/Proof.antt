@@ -6,7 +6,7 @@ use native.Mathlib.Omega.{arith}
 use lib.ListN.{length, getD, length-set}
 use denote.Ref.{now}
 use borrow.Author.Needs.{needs}
-use Rattle.lists.proofs.Fill.{Fill, fill-start, fill-two, fill-list}
+use Rattle.lists.proofs.Fill.{Fill, fill-start, fill-turn, fill-as, fill-list}
 use Rattle.packing.specs.Packing.{twoGroups, groups}
 use Rattle.packing.proofs.PackingLaws.{length-groups, groups-at, nth}
 use Rattle.packing.proofs.unpack_pairs.Statement.{statement}
@@ -107,8 +107,11 @@ loop-again : tie.Need-loop-again Inv-loop μ-loop
 unfolding twoGroups
 loop-again c =
     let l = c .before .before .before .before in
-    let at = groups-at (now (l .before .args .bytes)) (l .loop .k) (omega arith) in
-    (omega arith, fill-two (l .loop .k) (l .loop .inv .1) _ _ (omega arith) (omega (arith, nth at 0)) (omega (arith, nth at 1)))
+    let k = l .loop .k in
+    let at = groups-at (now (l .before .args .bytes)) k (omega arith) in (
+      omega arith,
+      fill-as (fill-turn (fill-turn (l .loop .inv .1) _ (omega arith) (omega (arith, nth at 0))) _ (omega arith) (omega (arith, nth at 1))) (2 * (k + 1)) (omega arith),
+    )
 
 same-length : tie.Need-same-length Inv-loop μ-loop
 same-length c = search needs

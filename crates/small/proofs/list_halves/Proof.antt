@@ -12,7 +12,7 @@ use borrow.Rule.Slice.PartAt.{part-to-end}
 use Rattle.lists.proofs.Parts.{both-parts}
 use Rattle.bits.specs.Listing.{listed}
 use Rattle.small.specs.Sampling.{firstHalf, secondHalf}
-use Rattle.small.proofs.Halves.{length-first}
+use Rattle.small.proofs.Halves.{length-first-bits}
 use Rattle.small.proofs.list_halves.Statement.{statement}
 use Rattle.small.proofs.list_halves.Tie as tie
 
@@ -71,7 +71,7 @@ returns c =
     let q = c .before .before .list2 .last .1 .0 in
     let first : p ≡ listed (firstHalf block) = first-half block p (c .before .before .before .before .before .before .before .list .ensures) in
     let second : q ≡ listed (secondHalf block) = second-half block q (c .before .before .list2 .ensures) in
-    both-parts (length (now (s .args .halves)) / 2) (now (s .args .halves)) p q (ap length first ∙ length-first block (s .pre .1) ∙ omega (arith, s .pre))
+    both-parts (length (now (s .args .halves)) / 2) (now (s .args .halves)) p q (ap length first ∙ length-first-bits block (s .pre .1) ∙ omega (arith, s .pre))
     ∙ ap (λ l. l ++ q) first ∙ ap (λ l. listed (firstHalf block) ++ l) second
 
 pub list-halves-spec : {M : Type 1} → statement M

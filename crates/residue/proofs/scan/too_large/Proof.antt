@@ -1,4 +1,4 @@
--- `residue::scan::too_large` meets its contract.
+-- `residue::scan::too_large` meets its contract: the same comparison.
 -- Assumes nothing.
 use mathlib.Core.Path.{refl}
 use Rattle.residue.specs.Large.{tooLarge}
