@@ -18,20 +18,21 @@ use Rattle.bits.proofs.list_block.Tie as tie
 
 abbrev Inv-loop : tie.InvT-loop
 Inv-loop bytes bits₀ width at₀ l₀ bits at l =
-    Fill (λ p. bitOf bytes (comesFrom (length bits₀) p)) (length bits₀) bits at × (at ≡ l * width) × (l ≤ 16)
+    (width ≡ length bits₀ / 16)
+    × Fill (λ p. bitOf bytes (comesFrom (length bits₀) p)) (length bits₀) bits at × (at ≡ l * width) × (l ≤ 16)
 
 abbrev μ-loop : tie.MeasureT-loop
 μ-loop bytes bits₀ width at₀ l₀ bits at l = 16 - l
+
+loop-holds : tie.Need-loop-holds Inv-loop μ-loop
+loop-holds c = (omega arith, fill-start _ refl, sym (zero-mul _), search needs)
 
 -- a row ends within the block
 room : (c : tie.In-loop Inv-loop μ-loop)
     → c .before .loop .at + length (now (c .before .before .before .before .args .bits)) / 16 ≤ length (now (c .before .before .before .before .args .bits))
 room c =
     let s = c .before .before .before .before in
-    omega (arith, row-ends (length (now (s .args .bits))) (c .before .loop .l) (s .pre .1) (c .loop-test .taken), c .before .loop .inv .1)
-
-loop-holds : tie.Need-loop-holds Inv-loop μ-loop
-loop-holds c = (fill-start _ refl, sym (zero-mul _), search needs)
+    omega (arith, row-ends (length (now (s .args .bits))) (c .before .loop .l) (s .pre .1) (c .loop-test .taken), c .before .loop .inv .2)
 
 add-end : tie.Need-add-end Inv-loop μ-loop
 add-end c = omega (arith, room c)
@@ -43,14 +44,14 @@ part-list-row-start : tie.Need-part-list-row-start Inv-loop μ-loop
 part-list-row-start c = search needs
 
 part-list-row-end : tie.Need-part-list-row-end Inv-loop μ-loop
-part-list-row-end c = omega (arith, room c, c .before .loop .inv .0 .long)
+part-list-row-end c = omega (arith, room c, c .before .loop .inv .1 .long)
 
 list-row-requires : tie.Need-list-row-requires Inv-loop μ-loop
 list-row-requires c κs =
     let u = c .before .before in
     let s = u .before .before .before in
     let e = u .loop .at + length (now (s .args .bits)) / 16 in
-    (omega (arith, mid-len (u .loop .at) e (u .loop .bits) (omega (arith, room (c .before), u .loop .inv .0 .long)), s .pre .0), c .before .loop-test .taken)
+    (omega (arith, mid-len (u .loop .at) e (u .loop .bits) (omega (arith, room (c .before), u .loop .inv .1 .long)), s .pre .0), c .before .loop-test .taken)
 
 add-l : tie.Need-add-l Inv-loop μ-loop
 add-l c = search needs
@@ -66,9 +67,10 @@ loop-again c =
     let at = u .loop .at in
     let r = room (c .before .before .before .before) in
     let wide : at + B / 16 - at ≡ B / 16 = omega arith in
-    let same = mid-len at (at + B / 16) (u .loop .bits) (omega (arith, r, u .loop .inv .0 .long)) in (
-      fill-part (u .loop .inv .0) (at + B / 16) _ (omega arith) r (row-is (now (s .args .bytes)) _ B _ _ at (u .loop .l) (u .loop .inv .1) same wide (c .before .before .list-row .ensures)),
-      ap (λ a. a + B / 16) (u .loop .inv .1) ∙ row-next (u .loop .l) (B / 16),
+    let same = mid-len at (at + B / 16) (u .loop .bits) (omega (arith, r, u .loop .inv .1 .long)) in (
+      u .loop .inv .0,
+      fill-part (u .loop .inv .1) (at + B / 16) _ (omega arith) r (row-is (now (s .args .bytes)) _ B _ _ at (u .loop .l) (u .loop .inv .2) same wide (c .before .before .list-row .ensures)),
+      ap (λ a. a + B / 16) (u .loop .inv .2) ∙ row-next (u .loop .l) (B / 16),
       omega arith,
     )
 
@@ -82,7 +84,7 @@ returns c =
     let s = u .before .before .before in
     let B = length (now (s .args .bits)) in
     let last : u .loop .l ≡ 16 = omega (arith, c .loop-test .left) in
-    fill-end (u .loop .inv .0) (omega (arith, u .loop .inv .1 ∙ ap (λ l. l * (B / 16)) last, s .pre .1))
+    fill-end (u .loop .inv .1) (omega (arith, u .loop .inv .2 ∙ ap (λ l. l * (B / 16)) last, s .pre .1))
 
 pub list-block-spec : {M : Type 1} → statement M
 list-block-spec =
