@@ -1,4 +1,4 @@
--- What folding makes of the powers of x: x^n = x^h - 1 and x^3h = -1, n = 2h, and so of every product of two of them.
+-- What folding makes of the powers of x: x^n = x^h - 1 and x^3h = -1, n = 2h, and so of every product of two of them; and their images.
 -- Assumes nothing.
 use mathlib.Core.Bool.{cond}
 use mathlib.Core.Path.{_≡_, refl, sym, ap, ap₂, _∙_}
@@ -12,18 +12,20 @@ use lib.Dec.{eqb, lit<}
 use lib.ListN.{getD}
 use borrow.Author.Tests.{eq-eqb, ne-eqb}
 use Rattle.lists.specs.Tab.{tab}
-use Rattle.residue.specs.Field.{q, negq, subq}
+use Rattle.residue.specs.Field.{q, negq, subq, powq}
 use Rattle.residue.specs.Residues.{Residues}
 use Rattle.lists.proofs.TabLaws.{getD-tab, map-cond, cond-both}
-use Rattle.residue.proofs.FieldLaws.{negq-lt, subq-lt}
+use Rattle.residue.proofs.FieldLaws.{negq-lt, subq-lt, powq-lt}
 use Rattle.algebra.specs.Numbers.{Numbers, residues}
 use Rattle.algebra.specs.Product.{schoolbook, foldLow, foldHigh, fold, product, monomial}
-use Rattle.algebra.proofs.Ring.{Ring, units, add-nil, nil-add, one-mul, mul-nil, nil-mul, sub-is}
+use Rattle.algebra.specs.Transform.{exponent, image}
+use Rattle.algebra.proofs.Ring.{Ring, pow, units, add-nil, nil-add, one-mul, mul-nil, nil-mul, sub-is}
 use Rattle.algebra.proofs.Sum.{sum-single, sum-nil}
 use Rattle.algebra.proofs.Halves.{halves}
-use Rattle.algebra.proofs.Value.{fold-low, fold-high}
-use Rattle.algebra.proofs.Field.{F, ι, ι-keeps, ι-one, ι-negq}
-use Rattle.algebra.proofs.Lists.{coeffs, coeffs-short, coeffs-tab, tab-residues, residues-ext, product-residues, product-is}
+use Rattle.algebra.proofs.Value.{valueIn, fold-low, fold-high}
+use Rattle.algebra.proofs.Image.{imageIn}
+use Rattle.algebra.proofs.Field.{F, ι, ι-injective, ι-keeps, ι-one, ι-negq, ι-powq}
+use Rattle.algebra.proofs.Lists.{coeffs, coeffs-short, coeffs-tab, tab-residues, residues-ext, product-residues, image-residues, product-is, image-is}
 
 module _ (R : Ring) where
   open Ring R using (num, one as 𝟙, neg as ν)
@@ -147,3 +149,14 @@ module _ (h i j : ℕ) (hi : i < h + h) (hj : j < h + h) where
       residues-ext (product-residues h (x^ i) (x^ j)) (tab-residues (h + h) _ (λ k. negq-lt _))
       (λ k b. product-single k b ∙ ap (λ m. fold (F .num) h (single F m) k) e ∙ fold-top F h s l k b
       ∙ sym (coeffs-tab (h + h) _ k b ∙ ι-negq _ ∙ ap (F .num .mul (F .neg)) (monomial-is (h + h) s k (omega arith))))
+
+-- the image of x^i: (w^e)^i in the slot with the exponent e
+pub image-monomial : (h w i k : ℕ) → i < h + h → k < h + h
+    → getD (image h w (monomial (h + h) i)) k 0 ≡ powq (powq w (exponent k)) i
+unfolding imageIn valueIn
+image-monomial h w i k hi hk =
+    ι-injective (image-residues h w (monomial (h + h) i) .low k hk) (powq-lt (powq w (exponent k)) i)
+    (image-is h w (monomial (h + h) i) k hk
+    ∙ sum-single F (h + h) i _ hi (λ j _ ne. rw (monomial-is (h + h) i j hi, single-off F i j ne, nil-mul))
+    ∙ rw (monomial-is (h + h) i i hi, single-on F i, one-mul)
+    (sym (ι-powq (powq w (exponent k)) i ∙ ap (λ z. pow F z i) (ι-powq w (exponent k)))))

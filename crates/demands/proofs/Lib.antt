@@ -1,1 +1,3 @@
 pub mod BenchValues
+pub mod Images
+pub mod Unique

@@ -1,0 +1,40 @@
+-- Number and place together tell every case of an answer apart: they can be turned back into it.
+-- Assumes nothing.
+use mathlib.Core.Bool.{cond}
+use mathlib.Core.Path.{_≡_, refl, sym, ap₂, _∙_}
+use Prim.Native.Nat.{ℕ}
+use lib.Dec.{eqb}
+use Rattle.answers.specs.declared.Answer.{Answer}
+use Rattle.answers.specs.declared.Answer.the-variants.{Done, UnknownSet, WrongLength, TooLarge, ZeroSlot, BadMark, Differs, Malformed}
+use Rattle.answers.specs.Answers.{numberOf, placeOf, Reply, reply}
+
+-- what a definition answers where the code gives this case
+abbrev pub replyOf : Answer → Reply
+replyOf r = reply (numberOf r) (placeOf r)
+
+-- the case with this number and place
+answerAt : ℕ → ℕ → Answer
+answerAt n p =
+    cond (eqb n 0) Done
+    (cond (eqb n 1) UnknownSet
+    (cond (eqb n 2) WrongLength
+    (cond (eqb n 3) (TooLarge p)
+    (cond (eqb n 4) (ZeroSlot p)
+    (cond (eqb n 5) (BadMark p)
+    (cond (eqb n 6) Differs
+    (Malformed p)))))))
+
+answerAt-back : (r : Answer) → answerAt (numberOf r) (placeOf r) ≡ r
+unfolding answerAt
+answerAt-back Done = refl
+answerAt-back UnknownSet = refl
+answerAt-back WrongLength = refl
+answerAt-back (TooLarge p) = refl
+answerAt-back (ZeroSlot p) = refl
+answerAt-back (BadMark p) = refl
+answerAt-back Differs = refl
+answerAt-back (Malformed p) = refl
+
+-- one case at most has the number and the place of a reply
+pub one-answer : {r s : Answer} (R : Reply) → numberOf r ≡ R .number → placeOf r ≡ R .place → numberOf s ≡ R .number → placeOf s ≡ R .place → r ≡ s
+one-answer {r} {s} R m p n o = sym (answerAt-back r) ∙ ap₂ answerAt (m ∙ sym n) (p ∙ sym o) ∙ answerAt-back s

@@ -1,0 +1,3 @@
+pub mod AnswerLaws
+pub mod SetLaws
+pub mod Exits

@@ -1,0 +1,49 @@
+-- "The set number decides every length, the root and the number of slots", and the tests that every call makes by them.
+-- Assumes nothing: these are definitions.
+use mathlib.Core.Bool.{Bool, cond}
+use mathlib.Core.List.{List, flatten}
+use Prim.Native.Nat.{ℕ, _+_, _*_, _/_}
+use lib.Dec.{eqb, ltb}
+use lib.ListN.{length}
+use Rattle.lists.specs.First.{firstThrough}
+use Rattle.residue.specs.Large.{tooLarge}
+use Rattle.answers.specs.declared.Parameters.{Parameters}
+use Rattle.answers.specs.declared.SetChoice.{SetChoice}
+use Rattle.answers.specs.declared.SetChoice.the-variants.{Known, Unknown}
+use Rattle.answers.specs.Answers.{Reply, reply}
+
+-- every length of the table of calls, of the set n whose root is w = 7^step
+unfoldable pub parametersOf : ℕ → ℕ → ℕ → Parameters
+parametersOf n w step =
+    record {
+      n = n;
+      half = n / 2;
+      slots = n;
+      root = w;
+      step = step;
+      seed = n / 2;
+      packed = 3 * n / 2;
+      private = 3 * n;
+      hblock = 32 + n / 4;
+      message = n / 8;
+      gblock = n / 4;
+      key = 32;
+    }
+
+-- "| 576 | 49 | 1728 | 576 |", "| 1152 | 7 | 3456 | 1152 |"
+unfoldable pub setOf : ℕ → SetChoice
+setOf set = cond (eqb set 576) (Known (parametersOf 576 49 2)) (cond (eqb set 1152) (Known (parametersOf 1152 7 1)) Unknown)
+
+-- what is so of a known set, or what stands in for it
+unfoldable pub forSet : {A : Type 0} → SetChoice → A → (Parameters → A) → A
+forSet Unknown other f = other
+forSet (Known s) other f = f s
+
+-- "The library's calls test in the order of the numbers": 1, "set is not 576 or 1152"; 2, "some lent buffer hasn't its exact length"
+unfoldable pub inOrder : ℕ → (Parameters → Bool) → (Parameters → Reply) → Reply
+inOrder set fits rest = forSet (setOf set) (reply 1 0) (λ s. cond (fits s) (rest s) (reply 2 0))
+
+-- 3: "a list number or packed group is above 3456", "first such, counted through the inputs as listed"; otherwise the rest decides
+unfoldable pub inRange : List (List ℕ) → Reply → Reply
+inRange inputs rest =
+    cond (ltb (firstThrough tooLarge inputs) (length (flatten inputs))) (reply 3 (firstThrough tooLarge inputs)) rest

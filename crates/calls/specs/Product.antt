@@ -1,0 +1,28 @@
+-- The call `product`: "two lists of n numbers", "list of n".
+-- Assumes nothing: these are definitions.
+use mathlib.Core.Bool.{_&&_}
+use mathlib.Core.List.{List, [], _∷_}
+use mathlib.Core.Path.{_≡_}
+use Prim.Native.Nat.{ℕ}
+use lib.Dec.{eqb}
+use lib.ListN.{length}
+use Rattle.algebra.specs.Numbers.{residues}
+use Rattle.algebra.specs.Product.{product}
+use Rattle.answers.specs.declared.Answer.{Answer}
+use Rattle.answers.specs.Answers.{numberOf, placeOf, Reply, reply, leaves}
+use Rattle.answers.specs.Sets.{setOf, forSet, inOrder, inRange}
+
+-- 1, 2, 3 or 0, in that order; `room` is the length of the list that is written
+unfoldable pub productReply : ℕ → List ℕ → List ℕ → ℕ → Reply
+productReply set a b room =
+    inOrder set (λ s. eqb (length a) (s .n) && (eqb (length b) (s .n) && eqb room (s .n))) (λ s. inRange (a ∷ b ∷ []) (reply 0 0))
+
+-- "the schoolbook product with x^n = x^(n/2) - 1"
+unfoldable pub productOf : ℕ → List ℕ → List ℕ → List ℕ
+productOf set a b = forSet (setOf set) [] (λ s. product residues (s .half) a b)
+
+-- the promise of `product`: r is answered, and the list that held `before` holds `after`
+pub record Product (set : ℕ) (a b before : List ℕ) (r : Answer) (after : List ℕ) : Type 0 where
+  pub number : numberOf r ≡ productReply set a b (length before) .number
+  pub place : placeOf r ≡ productReply set a b (length before) .place
+  pub content : after ≡ leaves (productReply set a b (length before)) (productOf set a b) before

@@ -1,0 +1,44 @@
+-- Demand 2: "Transforming, multiplying slot by slot and transforming back equals the schoolbook product", of the definitions that the
+-- promises of the calls cite, for every set number. Assumes nothing.
+use mathlib.Core.List.{List, []}
+use mathlib.Core.Path.{_≡_, refl, sym, ap, _∙_, subst}
+use Prim.Native.Nat.{ℕ, _+_}
+use Rattle.residue.specs.Residues.{Residues}
+use Rattle.algebra.specs.Numbers.{residues}
+use Rattle.algebra.specs.Product.{product, times}
+use Rattle.algebra.specs.Roots.{IsRoot}
+use Rattle.algebra.specs.Transform.{image, reverse}
+use Rattle.answers.specs.declared.Parameters.{Parameters}
+use Rattle.answers.specs.declared.SetChoice.{SetChoice}
+use Rattle.answers.specs.declared.SetChoice.the-variants.{Known, Unknown}
+use Rattle.answers.specs.Sets.{setOf, forSet}
+use Rattle.calls.specs.Product.{productOf}
+use Rattle.calls.specs.Transform.{transformOf}
+use Rattle.calls.specs.Reverse.{reverseOf}
+use Rattle.algebra.proofs.Theorems.{reverse-times}
+use Rattle.answers.proofs.SetLaws.{IsSet, known-set}
+use Rattle.demands.specs.Slots.{timesOf}
+
+-- the root of a set serves the transform
+pub set-root : {set : ℕ} {s : Parameters} → IsSet set s → IsRoot (s .half) (s .root)
+set-root {s = s} i = record { log = s .step; turns = i .turns; root = i .root }
+
+-- an element of the set: n = 2h residues
+set-residues : {set : ℕ} {s : Parameters} → IsSet set s → {l : List ℕ} → Residues set l → Residues (s .half + s .half) l
+set-residues i {l} = subst (λ n. Residues n l) (sym (i .size) ∙ i .whole)
+
+-- "the schoolbook product folded by x^n - x^(n/2) + 1"
+pub product-by-images : (set : ℕ) (a b : List ℕ) → Residues set a → Residues set b
+    → reverseOf set (timesOf set (transformOf set a) (transformOf set b)) ≡ productOf set a b
+unfolding reverseOf timesOf transformOf productOf forSet
+product-by-images set a b ra rb = by (setOf set) (known-set set)
+  where
+    by : (c : SetChoice) → ((s : Parameters) → c ≡ Known s → IsSet set s)
+        → forSet c [] (λ s. reverse (s .half) (s .root)
+        (forSet c [] (λ s. times (s .slots) (forSet c [] (λ s. image (s .half) (s .root) a)) (forSet c [] (λ s. image (s .half) (s .root) b)))))
+        ≡ forSet c [] (λ s. product residues (s .half) a b)
+    by Unknown known = refl
+    by (Known s) known =
+        let i = known s refl in
+        ap (λ n. reverse (s .half) (s .root) (times n (image (s .half) (s .root) a) (image (s .half) (s .root) b))) (i .slots)
+        ∙ reverse-times (s .half) (s .root) (set-root i) a b (set-residues i ra) (set-residues i rb)
