@@ -54,7 +54,7 @@ fold-lt : (h : ℕ) (c : ℕ → ℕ) (i : ℕ) → fold residues h c i < q
 unfolding fold foldLow foldHigh
 fold-lt h c i = cond-both (λ x. x < q) (ltb i h) (subq-lt _ _) (addq-lt _ _)
 
-sum-lt : (n : ℕ) (f : ℕ → ℕ) → sum residues n f < q
+pub sum-lt : (n : ℕ) (f : ℕ → ℕ) → sum residues n f < q
 unfolding sum
 sum-lt zero f = lit< tt
 sum-lt (suc n) f = addq-lt _ _

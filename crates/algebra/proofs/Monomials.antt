@@ -66,11 +66,11 @@ module _ (R : Ring) where
 
   low-is : (h : ℕ) (c : ℕ → C) (i : ℕ) → i < h → fold num h c i ≡ c i ⊕ ν ⊗ (c (h + h + i) ⊕ c (h + h + (h + i)))
   unfolding foldLow
-  low-is h c i l = fold-low R h c i l ∙ sub-is R _ _
+  low-is h c i l = fold-low num h c i l ∙ sub-is R _ _
 
   high-is : (h : ℕ) (c : ℕ → C) (i : ℕ) → fold num h c (h + i) ≡ c (h + i) ⊕ c (h + h + i)
   unfolding foldHigh
-  high-is h c i = fold-high R h c i
+  high-is h c i = fold-high num h c i
 
   module _ (h : ℕ) where
     -- below x^n nothing is folded

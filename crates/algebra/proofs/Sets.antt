@@ -56,8 +56,12 @@ module _ (h w : ℕ) (ρ : IsRoot h w) where
       by zero e = absurd (omega (arith, e))
       by (suc k) e = omega arith
 
-  order-small : 6 * h ≤ 3456
+  pub order-small : 6 * h ≤ 3456
   order-small = omega (arith, turns, mul-le-mul-right (6 * h) log-positive)
+
+  -- the exponents of 7 that powers of w below w^(6h) have
+  pub log-below : (k : ℕ) → k < 6 * h → log * k < 3456
+  log-below k l = omega (arith, turns, mul-lt-mul-of-pos-left l log-positive)
 
   log-small : log ≤ 3456
   log-small = omega (arith, turns, mul-le-mul-left {m = 1} {n = 6 * h} log (omega (arith, half-positive)))
@@ -79,8 +83,7 @@ module _ (h w : ℕ) (ρ : IsRoot h w) where
 
   pub root-order : (k : ℕ) → 0 < k → k < 6 * h → ¬ (powq w k ≡ 1)
   root-order k p l e =
-      order (log * k) (omega (arith, mul-lt-mul-of-pos-left p log-positive))
-      (omega (arith, turns, mul-lt-mul-of-pos-left l log-positive)) (sym (powq-root k) ∙ e)
+      order (log * k) (omega (arith, mul-lt-mul-of-pos-left p log-positive)) (log-below k l) (sym (powq-root k) ∙ e)
 
   -- ---- so w serves the transform
 

@@ -3,13 +3,26 @@
 use mathlib.Core.Path.{_≡_, sym, ap, ap₂, _∙_}
 use Prim.Native.Nat.{ℕ, suc, _+_, _-_, _≤_, _<_}
 use native.Mathlib.Decide.{decLt}
-use native.Mathlib.Nat as N
+use native.Mathlib.Nat.{add-sub-of-le, add-sub-cancel-left}
 use native.Mathlib.Omega.{arith}
 use borrow.Author.Tests.{le-ltb, lt-ltb}
 use Rattle.algebra.specs.Numbers.{Numbers, sum}
 use Rattle.algebra.specs.Product.{schoolbook, foldLow, foldHigh, fold}
 use Rattle.algebra.proofs.Ring.{Ring, ring, pow, pow-add, mul-assoc, nil-mul, add-mul, add-right-comm, minus, nil-add, sub-is}
 use Rattle.algebra.proofs.Sum.{sum-cong, sum-add, sum-mul, sum-mul-right, sum-past, sum-split, sum-halves, sum-diagonals}
+
+-- ---- the halves of a folded product, of any numbers
+
+module _ (N : Numbers) where
+  pub fold-low : (h : ℕ) (c : ℕ → N .C) (i : ℕ) → i < h → fold N h c i ≡ foldLow N h c i
+  unfolding fold
+  fold-low h c i l = rw (lt-ltb i h l)
+
+  pub fold-high : (h : ℕ) (c : ℕ → N .C) (i : ℕ) → fold N h c (h + i) ≡ foldHigh N h c i
+  unfolding fold
+  fold-high h c i = rw (le-ltb (h + i) h (omega arith), add-sub-cancel-left)
+
+-- ---- in a ring
 
 module _ (R : Ring) where
   open Ring R using (num, neg as ν)
@@ -37,7 +50,7 @@ module _ (R : Ring) where
       ∙ sym (sum-mul-right R n _ (valueIn n b z))
     where
       split : (i m : ℕ) → i < suc m → a i ⊗ b (m - i) ⊗ pow R z m ≡ a i ⊗ pow R z i ⊗ (b (m - i) ⊗ pow R z (m - i))
-      split i m h = rw (ap (pow R z) (sym (N.add-sub-of-le {n = m} {m = i} (omega arith))) ∙ pow-add R z i (m - i)) (simp ring)
+      split i m h = rw (ap (pow R z) (sym (add-sub-of-le {n = m} {m = i} (omega arith))) ∙ pow-add R z i (m - i)) (simp ring)
 
       row : (i : ℕ) → i < n + n → Dec (i < n)
           → a i ⊗ pow R z i ⊗ sum num (n + n - i) (λ j. b j ⊗ pow R z j) ≡ a i ⊗ pow R z i ⊗ valueIn n b z
@@ -47,14 +60,6 @@ module _ (R : Ring) where
       row i h (no l) = rw (ha i (omega arith), nil-mul R (pow R z i), nil-mul R (sum num (n + n - i) _), nil-mul)
 
   -- ---- folding
-
-  pub fold-low : (h : ℕ) (c : ℕ → C) (i : ℕ) → i < h → fold num h c i ≡ foldLow num h c i
-  unfolding fold
-  fold-low h c i l = rw (lt-ltb i h l)
-
-  pub fold-high : (h : ℕ) (c : ℕ → C) (i : ℕ) → fold num h c (h + i) ≡ foldHigh num h c i
-  unfolding fold
-  fold-high h c i = rw (le-ltb (h + i) h (omega arith), N.add-sub-cancel-left)
 
   module _ (h : ℕ) (z : C) (root : pow R z h ⊗ pow R z h ≡ pow R z h ⊕ ν) where
     -- z^3h = -1
@@ -72,7 +77,7 @@ module _ (R : Ring) where
         term : (i : ℕ) → i < h → fold num h c i ⊗ pow R z i ⊕ fold num h c (h + i) ⊗ pow R z (h + i)
             ≡ c i ⊗ pow R z i ⊕ c (h + i) ⊗ pow R z (h + i)
             ⊕ (c (h + h + i) ⊗ pow R z (h + h + i) ⊕ c (h + h + (h + i)) ⊗ pow R z (h + h + (h + i)))
-        term i l = rw (fold-low h c i l, fold-high h c i) (simp (foldLow, foldHigh, sub-is R, pow-add, root, cube) (simp ring))
+        term i l = rw (fold-low num h c i l, fold-high num h c i) (simp (foldLow, foldHigh, sub-is R, pow-add, root, cube) (simp ring))
 
     -- the value of the folded product is the product of the values
     pub product-value : (a b : ℕ → C) → Short (h + h) a → Short (h + h) b

@@ -6,11 +6,7 @@ use Prim.Native.Nat.{ℕ}
 use lib.Dec.{eqb}
 use Rattle.answers.specs.declared.Answer.{Answer}
 use Rattle.answers.specs.declared.Answer.the-variants.{Done, UnknownSet, WrongLength, TooLarge, ZeroSlot, BadMark, Differs, Malformed}
-use Rattle.answers.specs.Answers.{numberOf, placeOf, Reply, reply}
-
--- what a definition answers where the code gives this case
-abbrev pub replyOf : Answer → Reply
-replyOf r = reply (numberOf r) (placeOf r)
+use Rattle.answers.specs.Answers.{numberOf, placeOf, Reply, Outcome}
 
 -- the case with this number and place
 answerAt : ℕ → ℕ → Answer
@@ -36,5 +32,5 @@ answerAt-back Differs = refl
 answerAt-back (Malformed p) = refl
 
 -- one case at most has the number and the place of a reply
-pub one-answer : {r s : Answer} (R : Reply) → numberOf r ≡ R .number → placeOf r ≡ R .place → numberOf s ≡ R .number → placeOf s ≡ R .place → r ≡ s
-one-answer {r} {s} R m p n o = sym (answerAt-back r) ∙ ap₂ answerAt (m ∙ sym n) (p ∙ sym o) ∙ answerAt-back s
+pub one-answer : {R : Reply} {r s : Answer} {Holds Holds′ : Reply → Type 0} → Outcome R r Holds → Outcome R s Holds′ → r ≡ s
+one-answer {R} {r} {s} p q = sym (answerAt-back r) ∙ ap₂ answerAt (p .number ∙ sym (q .number)) (p .place ∙ sym (q .place)) ∙ answerAt-back s

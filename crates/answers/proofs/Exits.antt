@@ -1,17 +1,19 @@
--- What a call's definition answers at each of its exits, once for all calls: the tests in order, by what is known at the exit.
+-- What a call owes at each of its exits, once for all calls: the tests in order, each by what is known at the exit.
 -- Assumes nothing.
 use mathlib.Core.Bool.{Bool, true, false, cond}
 use mathlib.Core.List.{List, flatten}
-use mathlib.Core.Path.{_≡_, ap, _∙_}
+use mathlib.Core.Path.{_≡_, refl, sym, ap, _∙_, subst}
 use Prim.Native.Nat.{ℕ, _≤_, _<_}
+use lib.Dec.{ltb}
 use lib.ListN.{length}
 use borrow.Author.Tests.{lt-ltb, le-ltb}
 use Rattle.lists.specs.First.{firstThrough}
 use Rattle.residue.specs.Large.{tooLarge}
+use Rattle.answers.specs.declared.Answer.{Answer}
+use Rattle.answers.specs.declared.Answer.the-variants.{Done, UnknownSet, WrongLength, TooLarge}
 use Rattle.answers.specs.declared.Parameters.{Parameters}
-use Rattle.answers.specs.declared.SetChoice.{SetChoice}
 use Rattle.answers.specs.declared.SetChoice.the-variants.{Known, Unknown}
-use Rattle.answers.specs.Answers.{Reply, reply}
+use Rattle.answers.specs.Answers.{Reply, reply, Outcome}
 use Rattle.answers.specs.Sets.{setOf, forSet, inOrder, inRange}
 
 -- what is so of the set that is known
@@ -19,30 +21,62 @@ pub for-known : {A : Type 0} (set : ℕ) (s : Parameters) (other : A) (f : Param
 unfolding forSet
 for-known set s other f e = ap (λ c. forSet c other f) e
 
-module _ (set : ℕ) (fits : Parameters → Bool) (rest : Parameters → Reply) where
-  -- 1 where the set is unknown
-  pub unknown-set : setOf set ≡ Unknown → inOrder set fits rest ≡ reply 1 0
-  unfolding inOrder forSet
-  unknown-set e = ap (λ c. forSet c (reply 1 0) (λ s. cond (fits s) (rest s) (reply 2 0))) e
+-- ---- what the definition answers
 
-  module _ (s : Parameters) (e : setOf set ≡ Known s) where
-    -- 2 where a length is wrong
-    pub wrong-length : fits s ≡ false → inOrder set fits rest ≡ reply 2 0
-    unfolding inOrder
-    wrong-length f = for-known set s (reply 1 0) (λ p. cond (fits p) (rest p) (reply 2 0)) e ∙ simp f
+module _ (set : ℕ) (fits : Parameters → Bool) (rest : Parameters → Reply) (s : Parameters) (e : setOf set ≡ Known s) where
+  tests : inOrder set fits rest ≡ cond (fits s) (rest s) (reply 2 0)
+  unfolding inOrder
+  tests = for-known set s (reply 1 0) (λ p. cond (fits p) (rest p) (reply 2 0)) e
 
-    -- otherwise what the call itself finds
-    pub right-lengths : fits s ≡ true → inOrder set fits rest ≡ rest s
-    unfolding inOrder
-    right-lengths f = for-known set s (reply 1 0) (λ p. cond (fits p) (rest p) (reply 2 0)) e ∙ simp f
+  -- where the lengths are right, what the call itself finds
+  pub in-order : fits s ≡ true → inOrder set fits rest ≡ rest s
+  in-order f = tests ∙ ap (λ b. cond b (rest s) (reply 2 0)) f
 
-module _ (inputs : List (List ℕ)) (rest : Reply) where
-  -- 3 at the first number above 3456
-  pub too-large : firstThrough tooLarge inputs < length (flatten inputs) → inRange inputs rest ≡ reply 3 (firstThrough tooLarge inputs)
-  unfolding inRange
-  too-large h = simp (lt-ltb (firstThrough tooLarge inputs) (length (flatten inputs)) h)
+-- where no number is above 3456, the rest
+pub clear : (inputs : List (List ℕ)) (rest : Reply) → length (flatten inputs) ≤ firstThrough tooLarge inputs → inRange inputs rest ≡ rest
+unfolding inRange
+clear inputs rest h =
+    ap (λ b. cond b (reply 3 (firstThrough tooLarge inputs)) rest) (le-ltb (firstThrough tooLarge inputs) (length (flatten inputs)) h)
 
-  -- otherwise the rest
-  pub in-range : length (flatten inputs) ≤ firstThrough tooLarge inputs → inRange inputs rest ≡ rest
-  unfolding inRange
-  in-range h = simp (le-ltb (firstThrough tooLarge inputs) (length (flatten inputs)) h)
+-- ---- so what is owed at each exit
+
+module _ (Holds : Reply → Type 0) where
+  -- 0
+  pub done : Holds (reply 0 0) → Outcome (reply 0 0) Done Holds
+  done h = record { number = refl; place = refl; content = h }
+
+  module _ (set : ℕ) (fits : Parameters → Bool) (rest : Parameters → Reply) where
+    abbrev Owed : Answer → Type 0
+    Owed r = Outcome (inOrder set fits rest) r Holds
+
+    -- 1 where the set is unknown
+    pub unknown-set : setOf set ≡ Unknown → Holds (reply 1 0) → Owed UnknownSet
+    unfolding inOrder forSet
+    unknown-set e h =
+        subst (λ R. Outcome R UnknownSet Holds) (sym (ap (λ c. forSet c (reply 1 0) (λ s. cond (fits s) (rest s) (reply 2 0))) e))
+        (record { number = refl; place = refl; content = h })
+
+    module _ (s : Parameters) (e : setOf set ≡ Known s) where
+      -- 2 where a length is wrong
+      pub wrong-length : fits s ≡ false → Holds (reply 2 0) → Owed WrongLength
+      wrong-length f h =
+          subst (λ R. Outcome R WrongLength Holds) (sym (tests set fits rest s e ∙ ap (λ b. cond b (rest s) (reply 2 0)) f))
+          (record { number = refl; place = refl; content = h })
+
+      -- otherwise what the call itself finds
+      pub right-lengths : fits s ≡ true → (r : Answer) → Outcome (rest s) r Holds → Owed r
+      right-lengths f r = subst (λ R. Outcome R r Holds) (sym (in-order set fits rest s e f))
+
+  module _ (inputs : List (List ℕ)) (rest : Reply) where
+    -- 3 at the first number above 3456
+    pub too-large : (at : ℕ) → at ≡ firstThrough tooLarge inputs → at < length (flatten inputs) → Holds (reply 3 at)
+        → Outcome (inRange inputs rest) (TooLarge at) Holds
+    unfolding inRange
+    too-large at e h x =
+        subst (λ R. Outcome R (TooLarge at) Holds)
+        (sym (ap (λ k. cond (ltb k (length (flatten inputs))) (reply 3 k) rest) (sym e) ∙ ap (λ b. cond b (reply 3 at) rest) (lt-ltb at (length (flatten inputs)) h)))
+        (record { number = refl; place = refl; content = x })
+
+    -- otherwise the rest
+    pub in-range : length (flatten inputs) ≤ firstThrough tooLarge inputs → (r : Answer) → Outcome rest r Holds → Outcome (inRange inputs rest) r Holds
+    in-range h r = subst (λ R. Outcome R r Holds) (sym (clear inputs rest h))

@@ -1,3 +1,4 @@
 pub mod Product
 pub mod Transform
 pub mod Reverse
+pub mod Tests

@@ -9,7 +9,7 @@ use lib.ListN.{length}
 use Rattle.algebra.specs.Numbers.{residues}
 use Rattle.algebra.specs.Product.{product}
 use Rattle.answers.specs.declared.Answer.{Answer}
-use Rattle.answers.specs.Answers.{numberOf, placeOf, Reply, reply, leaves}
+use Rattle.answers.specs.Answers.{Reply, reply, leaves, Outcome}
 use Rattle.answers.specs.Sets.{setOf, forSet, inOrder, inRange}
 
 -- 1, 2, 3 or 0, in that order; `room` is the length of the list that is written
@@ -22,7 +22,6 @@ unfoldable pub productOf : ℕ → List ℕ → List ℕ → List ℕ
 productOf set a b = forSet (setOf set) [] (λ s. product residues (s .half) a b)
 
 -- the promise of `product`: r is answered, and the list that held `before` holds `after`
-pub record Product (set : ℕ) (a b before : List ℕ) (r : Answer) (after : List ℕ) : Type 0 where
-  pub number : numberOf r ≡ productReply set a b (length before) .number
-  pub place : placeOf r ≡ productReply set a b (length before) .place
-  pub content : after ≡ leaves (productReply set a b (length before)) (productOf set a b) before
+unfoldable pub Product : ℕ → List ℕ → List ℕ → List ℕ → Answer → List ℕ → Type 0
+Product set a b before r after =
+    Outcome (productReply set a b (length before)) r (λ R. after ≡ leaves R (productOf set a b) before)

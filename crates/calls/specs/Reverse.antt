@@ -6,7 +6,7 @@ use Prim.Native.Nat.{ℕ}
 use lib.ListN.{length}
 use Rattle.algebra.specs.Transform.{reverse}
 use Rattle.answers.specs.declared.Answer.{Answer}
-use Rattle.answers.specs.Answers.{numberOf, placeOf, leaves}
+use Rattle.answers.specs.Answers.{leaves, Outcome}
 use Rattle.answers.specs.Sets.{setOf, forSet}
 use Rattle.calls.specs.Transform.{listReply}
 
@@ -15,7 +15,6 @@ unfoldable pub reverseOf : ℕ → List ℕ → List ℕ
 reverseOf set a = forSet (setOf set) [] (λ s. reverse (s .half) (s .root) a)
 
 -- the promise of `reverse`: r is answered, and the list that held `before` holds `after`
-pub record Reverse (set : ℕ) (a before : List ℕ) (r : Answer) (after : List ℕ) : Type 0 where
-  pub number : numberOf r ≡ listReply set a (length before) .number
-  pub place : placeOf r ≡ listReply set a (length before) .place
-  pub content : after ≡ leaves (listReply set a (length before)) (reverseOf set a) before
+unfoldable pub Reverse : ℕ → List ℕ → List ℕ → Answer → List ℕ → Type 0
+Reverse set a before r after =
+    Outcome (listReply set a (length before)) r (λ R. after ≡ leaves R (reverseOf set a) before)

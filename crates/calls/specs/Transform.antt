@@ -8,7 +8,7 @@ use lib.Dec.{eqb}
 use lib.ListN.{length}
 use Rattle.algebra.specs.Transform.{image}
 use Rattle.answers.specs.declared.Answer.{Answer}
-use Rattle.answers.specs.Answers.{numberOf, placeOf, Reply, reply, leaves}
+use Rattle.answers.specs.Answers.{Reply, reply, leaves, Outcome}
 use Rattle.answers.specs.Sets.{setOf, forSet, inOrder, inRange}
 
 -- 1, 2, 3 or 0, in that order, for a call that takes one list to another; `room` is the length of the list that is written
@@ -21,7 +21,6 @@ unfoldable pub transformOf : ℕ → List ℕ → List ℕ
 transformOf set a = forSet (setOf set) [] (λ s. image (s .half) (s .root) a)
 
 -- the promise of `transform`: r is answered, and the list that held `before` holds `after`
-pub record Transform (set : ℕ) (a before : List ℕ) (r : Answer) (after : List ℕ) : Type 0 where
-  pub number : numberOf r ≡ listReply set a (length before) .number
-  pub place : placeOf r ≡ listReply set a (length before) .place
-  pub content : after ≡ leaves (listReply set a (length before)) (transformOf set a) before
+unfoldable pub Transform : ℕ → List ℕ → List ℕ → Answer → List ℕ → Type 0
+Transform set a before r after =
+    Outcome (listReply set a (length before)) r (λ R. after ≡ leaves R (transformOf set a) before)

@@ -11,10 +11,13 @@ use Rattle.answers.proofs.AnswerLaws.{one-answer}
 
 module _ (set : ℕ) {r s : Answer} {x y : List ℕ} where
   pub product-unique : (a b before : List ℕ) → Product set a b before r x → Product set a b before s y → (r ≡ s) × (x ≡ y)
-  product-unique a b before p q = (one-answer _ (p .number) (p .place) (q .number) (q .place), p .content ∙ sym (q .content))
+  unfolding Product
+  product-unique a b before p q = (one-answer p q, p .content ∙ sym (q .content))
 
   pub transform-unique : (a before : List ℕ) → Transform set a before r x → Transform set a before s y → (r ≡ s) × (x ≡ y)
-  transform-unique a before p q = (one-answer _ (p .number) (p .place) (q .number) (q .place), p .content ∙ sym (q .content))
+  unfolding Transform
+  transform-unique a before p q = (one-answer p q, p .content ∙ sym (q .content))
 
   pub reverse-unique : (a before : List ℕ) → Reverse set a before r x → Reverse set a before s y → (r ≡ s) × (x ≡ y)
-  reverse-unique a before p q = (one-answer _ (p .number) (p .place) (q .number) (q .place), p .content ∙ sym (q .content))
+  unfolding Reverse
+  reverse-unique a before p q = (one-answer p q, p .content ∙ sym (q .content))

@@ -2,13 +2,23 @@
 -- Assumes nothing.
 use mathlib.Core.Path.{_≡_, refl, ap}
 use mathlib.Core.Bool.{Bool, true, false, cond}
-use mathlib.Core.List.{List, [], _∷_, _++_, flatten}
+use mathlib.Core.List.{List, [], _∷_, _++_, flatten, append-nil}
 use Prim.Native.Nat.{ℕ, zero, suc, _+_, _≤_, _<_}
+use native.Mathlib.Decide.{decLt}
 use native.Mathlib.Numerals.{add-one}
 use native.Mathlib.Omega.{arith}
-use lib.ListN.{length, getD, drop}
+use lib.ListN.{length, getD, drop, length-append}
 use lib.Seq.{drop-cons}
 use Rattle.lists.specs.First.{firstWhere, firstThrough}
+
+-- the lists one after the other are as long as all of them
+pub length-through : (l : List ℕ) (ls : List (List ℕ)) → length (flatten (l ∷ ls)) ≡ length l + length (flatten ls)
+unfolding flatten
+length-through l ls = length-append l (flatten ls)
+
+pub length-one : (l : List ℕ) → length (flatten (l ∷ [])) ≡ length l
+unfolding flatten
+length-one l = ap length (append-nil l)
 
 module _ (p : ℕ → Bool) where
   -- ---- what it says of the places
@@ -95,6 +105,17 @@ module _ (p : ℕ → Bool) where
   unfolding firstThrough flatten
   through-past l ls h = append-past l (flatten ls) h
 
-  pub through-none : firstThrough p [] ≡ 0
-  unfolding firstThrough flatten firstWhere
-  through-none = refl
+  -- of one list: its own first place
+  pub through-one : (l : List ℕ) → firstThrough p (l ∷ []) ≡ firstWhere p l
+  unfolding firstThrough flatten
+  through-one l = ap (firstWhere p) (append-nil l)
+
+  -- where the test holds in none of the lists, it holds in the first nowhere, and in none of the others
+  pub through-clear : (l : List ℕ) (ls : List (List ℕ)) → length (flatten (l ∷ ls)) ≤ firstThrough p (l ∷ ls)
+      → (firstWhere p l ≡ length l) × (length (flatten ls) ≤ firstThrough p ls)
+  through-clear l ls h = by (decLt (firstWhere p l) (length l))
+    where
+      by : Dec (firstWhere p l < length l) → (firstWhere p l ≡ length l) × (length (flatten ls) ≤ firstThrough p ls)
+      by (yes b) = absurd (omega (arith, h, length-through l ls, through-here l ls b))
+      by (no b) =
+          (omega (arith, first-within l, b), omega (arith, h, length-through l ls, through-past l ls (omega (arith, b))))

@@ -1,0 +1,19 @@
+-- `ring::product::fold_low` meets its contract.
+-- Assumes nothing.
+use mathlib.Core.Path.{ap, _∙_}
+use borrow.Author.Needs.{needs}
+use Rattle.residue.specs.Field.{subq}
+use Rattle.ring.proofs.product.fold_low.Statement.{statement}
+use Rattle.ring.proofs.product.fold_low.Tie as tie
+
+add-requires : tie.Need-add-requires
+add-requires c κs = search needs
+
+sub-requires : tie.Need-sub-requires
+sub-requires c κs = search needs
+
+returns : tie.Need-returns
+returns c = c .sub .ensures .0 ∙ ap (subq (c .before .before .args .own .0)) (c .before .add .ensures .0)
+
+pub fold-low-spec : {M : Type 1} → statement M
+fold-low-spec = tie.close (tie.spec add-requires sub-requires returns)
