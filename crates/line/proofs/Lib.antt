@@ -1,0 +1,3 @@
+pub mod InputLaws
+pub mod OutputLaws
+pub mod Printed

@@ -1,0 +1,5 @@
+pub mod Names
+pub mod Input
+pub mod Output
+pub mod Line
+pub mod Chosen
