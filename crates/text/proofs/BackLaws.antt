@@ -8,7 +8,7 @@ use native.Mathlib.Decide.{ℕ-discrete}
 use native.Mathlib.Nat.{pow-succ'}
 use native.Mathlib.Numerals.{add-one}
 use native.Mathlib.Omega.{arith}
-use lib.Dec.{eqb, leb}
+use lib.Dec.{eqb}
 use lib.ListN.{length, getD, take, drop}
 use lib.Seq.{take-at, drop-append-add}
 use borrow.Author.Tests.{eq-eqb, ne-eqb, le-leb}
@@ -87,7 +87,7 @@ unfolding split onFirst
 split-one none = refl
 split-one {c} (more {x = x} h e) = rw (ne-eqb c x h, split-one e)
 
--- and the first one up to a c
+-- where t has no c, the first piece of t, c and s is t, and the others are those of s
 split-piece : {c : ℕ} {t : List ℕ} → Without c t → (s : List ℕ) → split c (t ++ (c ∷ s)) ≡ t ∷ split c s
 unfolding split onFirst
 split-piece {c} none s = rw (eq-eqb c c refl)

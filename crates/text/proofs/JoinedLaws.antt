@@ -18,7 +18,7 @@ joined-comma u [] t = refl
 joined-comma u (w ∷ ts) t = ap (λ s. u ++ (44 ∷ s)) (joined-comma w ts t) ∙ sym (append-assoc u (44 ∷ joined (w ∷ ts)) (44 ∷ t))
 
 -- what is joined is as long as the first piece, or longer
-joined-first : (u : List ℕ) (ts : List (List ℕ)) → length u ≤ length (joined (u ∷ ts))
+pub joined-first : (u : List ℕ) (ts : List (List ℕ)) → length u ≤ length (joined (u ∷ ts))
 unfolding joined
 joined-first u [] = omega arith
 joined-first u (w ∷ ts) = omega (arith, length-append u (44 ∷ joined (w ∷ ts)))

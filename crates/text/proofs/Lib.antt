@@ -9,3 +9,4 @@ pub mod DigitLoop
 pub mod JoinedLaws
 pub mod PrintingLaws
 pub mod BackLaws
+pub mod RoundTrip

@@ -61,7 +61,7 @@ terms-append i (v ∷ l) m = by (eqb v 0) (terms-append (suc i) l m ∙ ap (λ k
     by false e = ap (λ ts. printedTerm i v ∷ ts) e
 
 -- none of them is empty
-terms-some : (i : ℕ) (l : List ℕ) → Each (λ t. 0 < length t) (printedTerms i l)
+pub terms-some : (i : ℕ) (l : List ℕ) → Each (λ t. 0 < length t) (printedTerms i l)
 unfolding printedTerms
 terms-some i [] = none
 terms-some i (v ∷ l) =
