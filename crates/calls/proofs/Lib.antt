@@ -1,2 +1,3 @@
 pub mod Lengths
+pub mod Products
 pub mod Tested

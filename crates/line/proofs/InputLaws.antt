@@ -1,20 +1,24 @@
 -- What the first line of a text says, by whether an LF ends it and by its name.
 -- Assumes nothing.
-use mathlib.Core.Bool.{true, false, _&&_, cond}
+use mathlib.Core.Bool.{Bool, true, false, _&&_, cond}
 use mathlib.Core.List.{List}
-use mathlib.Core.Option.{none}
-use mathlib.Core.Path.{_≡_, ap}
+use mathlib.Core.Option.{none, some, Option·none-ne-some}
+use mathlib.Core.Path.{_≡_, refl, sym, ap, _∙_}
 use Prim.Native.Nat.{ℕ, _≤_, _<_}
+use native.Mathlib.Omega.{arith}
 use lib.Dec.{eqb, ltb}
 use lib.ListN.{length}
 use borrow.Author.Tests.{lt-ltb, le-ltb}
 use Rattle.lists.specs.First.{firstWhere}
-use Rattle.text.specs.declared.Number.the-variants.{NotNumber}
+use Rattle.residue.specs.Residues.{Residues}
+use Rattle.text.specs.declared.Number.the-variants.{Is, NotNumber}
 use Rattle.text.specs.Lines.{lf, upTo, begins}
 use Rattle.text.specs.Numerals.{number}
 use Rattle.text.specs.Polynomials.{polynomial}
 use Rattle.lists.proofs.Every.{both-true}
 use Rattle.text.proofs.LineLaws.{begins-long}
+use Rattle.text.proofs.NumeralLaws.{number-bound}
+use Rattle.text.proofs.PolynomialLaws.{polynomial-residues}
 use Rattle.line.specs.Input.{isLine, body, setIn, polynomialIn}
 use Rattle.line.specs.Names.{setName}
 
@@ -43,6 +47,14 @@ module _ (name s : List ℕ) where
   unfolding polynomialIn
   polynomial-none n e = ap (λ b. cond b (polynomial n (body name s)) none) e
 
+  -- what is read is n residues
+  pub line-residues : (n : ℕ) (l : List ℕ) → polynomialIn name n s ≡ some l → Residues n l
+  line-residues n l e = by (isLine name s) refl
+    where
+      by : (b : Bool) → isLine name s ≡ b → Residues n l
+      by true f = polynomial-residues n (body name s) (sym (polynomial-line n f) ∙ e)
+      by false f = absurd (Option·none-ne-some l (sym (polynomial-none n f) ∙ e))
+
 -- the set's line, and none
 pub set-line : (s : List ℕ) → isLine setName s ≡ true → setIn s ≡ number (body setName s)
 unfolding setIn
@@ -51,3 +63,11 @@ set-line s e = ap (λ b. cond b (number (body setName s)) NotNumber) e
 pub set-none : (s : List ℕ) → isLine setName s ≡ false → setIn s ≡ NotNumber
 unfolding setIn
 set-none s e = ap (λ b. cond b (number (body setName s)) NotNumber) e
+
+-- a set's number has at most 5 digits
+pub set-small : (s : List ℕ) (v : ℕ) → setIn s ≡ Is v → v < 100000
+set-small s v e = by (isLine setName s) refl
+  where
+    by : (b : Bool) → isLine setName s ≡ b → v < 100000
+    by true f = number-bound (body setName s) v (sym (set-line s f) ∙ e)
+    by false f = let h : NotNumber ≡ Is v = sym (set-none s f) ∙ e in let z : _≡_ {A = ℕ} 0 1 = cc in absurd (omega arith)

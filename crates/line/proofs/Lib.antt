@@ -1,3 +1,4 @@
 pub mod InputLaws
 pub mod OutputLaws
 pub mod Printed
+pub mod ChosenLaws

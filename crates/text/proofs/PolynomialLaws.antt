@@ -1,7 +1,7 @@
 -- The laws of polynomials in text: the two cases of one, what its reader owes at each exit, and that what is read is n residues.
 -- Assumes nothing.
-use mathlib.Core.Path.{_≡_, refl, _∙_, subst}
-use mathlib.Core.Bool.{Bool, true, false, cond}
+use mathlib.Core.Path.{_≡_, refl, sym, ap, _∙_, subst}
+use mathlib.Core.Bool.{Bool, true, false, cond, true≢false, false≢true}
 use mathlib.Core.List.{List, [], _∷_}
 use mathlib.Core.Option.{Option, none, some}
 use Prim.Native.Nat.{ℕ, suc, _≤_, _<_}
@@ -44,6 +44,17 @@ reads-none after e = rw e refl
 pub reads-some : (l : List ℕ) {o : Option (List ℕ)} → o ≡ some l → Reads true l o
 unfolding Reads
 reads-some l e = rw e (refl, refl)
+
+-- what a reader that owes it has read
+pub reads-good : (after : List ℕ) (o : Option (List ℕ)) → Reads true after o → o ≡ some after
+unfolding Reads
+reads-good after none e = absurd (true≢false e)
+reads-good after (some l) e = ap some (sym (e .1))
+
+pub reads-bad : (after : List ℕ) (o : Option (List ℕ)) → Reads false after o → o ≡ none
+unfolding Reads
+reads-bad after none e = refl
+reads-bad after (some l) e = absurd (false≢true (e .0))
 
 -- ---- a polynomial is n residues
 

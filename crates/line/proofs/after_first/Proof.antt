@@ -1,125 +1,240 @@
+-- `after_first` prints what the definition says at each of its exits, the tests before it passed; the product is that of two elements.
+-- Assumes nothing.
+use mathlib.Core.List.{List}
+use mathlib.Core.Option.{some}
+use mathlib.Core.Path.{_≡_, refl, sym, ap, _∙_, subst}
+use Prim.Native.Nat.{ℕ}
+use native.Mathlib.Omega.{arith}
+use lib.Dec.{lit<}
+use lib.ListN.{length}
+use denote.Ref.{now}
 use borrow.Author.Needs.{needs}
+use borrow.Author.Tests.{not-true, not-false}
+use Rattle.answers.specs.Answers.{numberOf, placeOf}
+use Rattle.calls.specs.Product.{productOf}
+use Rattle.text.specs.Lines.{lf, past}
+use Rattle.text.specs.Polynomials.{Reads}
+use Rattle.text.proofs.PolynomialLaws.{reads-good, reads-bad}
+use Rattle.text.proofs.WriteLaws.{writes-as}
+use Rattle.line.specs.Input.{polynomialIn}
+use Rattle.line.specs.Names.{aName, bName}
+use Rattle.line.specs.Output.{productLines}
+use Rattle.line.proofs.ChosenLaws.{chosen-product, chosen-room}
+use Rattle.line.proofs.InputLaws.{set-small, line-residues}
+use Rattle.line.proofs.OutputLaws.{answer-short}
+use Rattle.line.proofs.Printed.{printed-second, printed-third, printed-more, printed-product}
 use Rattle.line.proofs.after_first.Statement.{statement}
 use Rattle.line.proofs.after_first.Tie as tie
-use Rattle.line.proofs.after_first.Reads as reads
-use Rattle.line.proofs.after_first.Lts as lts
-use Rattle.calls.proofs.product.product.Reads as product-reads
-use Rattle.line.proofs.input.polynomial_in.Reads as polynomial-in-reads
-use Rattle.line.proofs.output.put_answer.Reads as put-answer-reads
-use Rattle.line.proofs.put_lines.Reads as put-lines-reads
-use Rattle.text.proofs.read.past.Reads as past-reads
 
--- src/lib.rt:53:9
+-- ---- the places at which lines 2 and 3 have been read
+
+abbrev start : tie.After-polynomial-in → tie.Start
+start c = c .before .before .before .before .before .before .before .before .before
+
+abbrev earlier : tie.After-polynomial-in2 → tie.After-polynomial-in
+earlier c = c .before .before .before .before .before .before .before
+
+abbrev input : tie.Start → List ℕ
+input s = now (s .args .input)
+
+abbrev n : tie.Start → ℕ
+n s = length (now (s .args .a))
+
+abbrev a : tie.After-polynomial-in → List ℕ
+a c = c .polynomial-in .last .1 .1 .0
+
+abbrev b : tie.After-polynomial-in2 → List ℕ
+b c = c .polynomial-in2 .last .1 .1 .0
+
+-- ---- what each of them says
+
+second : (c : tie.After-polynomial-in) → Reads (c .polynomial-in .result) (a c) (polynomialIn aName (n (start c)) (past lf (input (start c))))
+second c =
+    subst (λ t. Reads (c .polynomial-in .result) (a c) (polynomialIn aName (n (start c)) t)) (c .before .before .before .past .ensures)
+    (c .polynomial-in .ensures)
+
+second-is : (c : tie.Else1) → let p = c .before .before .before in polynomialIn aName (n (start p)) (past lf (input (start p))) ≡ some (a p)
+second-is c =
+    let p = c .before .before .before in
+    reads-good (a p) _ (subst (λ r. Reads r (a p) (polynomialIn aName (n (start p)) (past lf (input (start p))))) (not-false _ (c .if1 .left)) (second p))
+
+third : (c : tie.After-polynomial-in2) → let s = start (earlier c) in
+    Reads (c .polynomial-in2 .result) (b c) (polynomialIn bName (n s) (past lf (past lf (input s))))
+third c =
+    let s = start (earlier c) in
+    subst (λ t. Reads (c .polynomial-in2 .result) (b c) t)
+    (ap (λ m. polynomialIn bName m (c .before .before .before .past2 .result .now)) (s .pre .1)
+    ∙ ap (λ t. polynomialIn bName (n s) t)
+    (c .before .before .before .past2 .ensures ∙ ap (past lf) (earlier c .before .before .before .past .ensures)))
+    (c .polynomial-in2 .ensures)
+
+third-is : (c : tie.Else2) → let p = c .before .before .before in let s = start (earlier p) in
+    polynomialIn bName (n s) (past lf (past lf (input s))) ≡ some (b p)
+third-is c =
+    let p = c .before .before .before in
+    let s = start (earlier p) in
+    reads-good (b p) _ (subst (λ r. Reads r (b p) (polynomialIn bName (n s) (past lf (past lf (input s))))) (not-false _ (c .if2 .left)) (third p))
+
+more-is : (c : tie.After-past3) → let s = start (earlier (c .before .before .before .before)) in
+    c .past3 .result .now ≡ past lf (past lf (past lf (input s)))
+more-is c =
+    let p = c .before .before .before .before in
+    c .past3 .ensures ∙ ap (past lf) (p .before .before .before .past2 .ensures ∙ ap (past lf) (earlier p .before .before .before .past .ensures))
+
+-- ---- the product
+
+abbrev read : tie.After-product → tie.After-polynomial-in2
+read c = c .before .before .before .before .before .before .before .before .before
+
+abbrev begun : tie.After-product → tie.Start
+begun c = start (earlier (read c))
+
+abbrev factor-a : tie.After-product → List ℕ
+factor-a c = a (earlier (read c))
+
+abbrev factor-b : tie.After-product → List ℕ
+factor-b c = b (read c)
+
+-- the call answers 0 and writes the product
+written : (c : tie.After-product) → (numberOf (c .product .result) ≡ 0) × (placeOf (c .product .result) ≡ 0)
+    × (c .product .last .1 .1 .1 .0 ≡ productOf (begun c .args .set) (factor-a c) (factor-b c))
+written c =
+    let s = begun c in
+    let o = c .before .before .before .before in
+    chosen-product (s .pre .0) (factor-a c) (factor-b c)
+    (line-residues aName (past lf (input s)) (n s) (factor-a c) (second-is (read c .before .before .before .before)))
+    (line-residues bName (past lf (past lf (input s))) (n s) (factor-b c) (third-is (o .before .before)))
+    _ _ _ (s .pre .2) (c .product .ensures)
+
+-- ---- the needs
+
 past-requires : tie.Need-past-requires
 past-requires c κs = search needs
 
--- src/lib.rt:54:23
 slice-aggregate-polynomial-in : tie.Need-slice-aggregate-polynomial-in
 slice-aggregate-polynomial-in c = search needs
 
--- src/lib.rt:54:9
 polynomial-in-requires : tie.Need-polynomial-in-requires
 polynomial-in-requires c κs = search needs
 
--- src/lib.rt:55:9
 put-answer-requires : tie.Need-put-answer-requires
-put-answer-requires c κs = ?
+put-answer-requires c κs =
+    let s = start (c .before .before .before .before) in
+    (lit< tt, omega (arith, answer-short 7 2 (lit< tt) (lit< tt), s .pre .3))
 
--- src/lib.rt:55:9
 same-length : tie.Need-same-length
 same-length c = search needs
 
--- src/lib.rt:55:9
 same-length-2 : tie.Need-same-length-2
 same-length-2 c = search needs
 
--- src/lib.rt:55:9
 returns : tie.Need-returns
-returns c = ?
+returns c =
+    let w = c .before .before in
+    let t = w .before .before in
+    let p = t .before .before .before in
+    let s = start p in
+    writes-as (w .put-answer .ensures)
+    (sym (printed-second (s .pre .0)
+    (reads-bad (a p) _ (subst (λ r. Reads r (a p) (polynomialIn aName (n s) (past lf (input s)))) (not-true _ (t .if1 .taken)) (second p))))) refl
 
--- src/lib.rt:57:9
 past-requires-2 : tie.Need-past-requires-2
 past-requires-2 c κs = search needs
 
--- src/lib.rt:58:23
 slice-aggregate-polynomial-in-2 : tie.Need-slice-aggregate-polynomial-in-2
 slice-aggregate-polynomial-in-2 c = search needs
 
--- src/lib.rt:58:9
 polynomial-in-requires-2 : tie.Need-polynomial-in-requires-2
 polynomial-in-requires-2 c κs = search needs
 
--- src/lib.rt:59:9
 put-answer-requires-2 : tie.Need-put-answer-requires-2
-put-answer-requires-2 c κs = ?
+put-answer-requires-2 c κs =
+    let s = start (earlier (c .before .before .before .before)) in
+    (lit< tt, omega (arith, answer-short 7 3 (lit< tt) (lit< tt), s .pre .3))
 
--- src/lib.rt:59:9
 same-length-3 : tie.Need-same-length-3
 same-length-3 c = search needs
 
--- src/lib.rt:59:9
 same-length-4 : tie.Need-same-length-4
 same-length-4 c = search needs
 
--- src/lib.rt:59:9
 same-length-5 : tie.Need-same-length-5
 same-length-5 c = search needs
 
--- src/lib.rt:59:9
 returns-2 : tie.Need-returns-2
-returns-2 c = ?
+returns-2 c =
+    let w = c .before .before in
+    let t = w .before .before in
+    let p = t .before .before .before in
+    let e = p .before .before .before .before in
+    let s = start (earlier p) in
+    writes-as (w .put-answer2 .ensures)
+    (sym (printed-third (s .pre .0) (a (earlier p)) (second-is e)
+    (reads-bad (b p) _ (subst (λ r. Reads r (b p) (polynomialIn bName (n s) (past lf (past lf (input s))))) (not-true _ (t .if2 .taken)) (third p))))) refl
 
--- src/lib.rt:61:9
 past-requires-3 : tie.Need-past-requires-3
 past-requires-3 c κs = search needs
 
--- src/lib.rt:63:9
 put-answer-requires-3 : tie.Need-put-answer-requires-3
-put-answer-requires-3 c κs = ?
+put-answer-requires-3 c κs =
+    let s = start (earlier (c .before .before .before .before .before .before)) in
+    (lit< tt, omega (arith, answer-short 7 4 (lit< tt) (lit< tt), s .pre .3))
 
--- src/lib.rt:63:9
 same-length-6 : tie.Need-same-length-6
 same-length-6 c = search needs
 
--- src/lib.rt:63:9
 same-length-7 : tie.Need-same-length-7
 same-length-7 c = search needs
 
--- src/lib.rt:63:9
 same-length-8 : tie.Need-same-length-8
 same-length-8 c = search needs
 
--- src/lib.rt:63:9
 returns-3 : tie.Need-returns-3
-returns-3 c = ?
+returns-3 c =
+    let w = c .before .before in
+    let t = w .before .before in
+    let m = t .before in
+    let p = m .before .before .before .before in
+    let s = start (earlier p) in
+    writes-as (w .put-answer3 .ensures)
+    (sym (printed-more (s .pre .0) (a (earlier p)) (second-is (p .before .before .before .before)) (b p) (third-is (m .before))
+    (λ e. omega (arith, t .if3 .taken, ap length (more-is m), e)))) refl
 
--- src/lib.rt:65:9
 product-requires : tie.Need-product-requires
 product-requires c κs = search needs
 
--- src/lib.rt:66:5
 put-lines-requires : tie.Need-put-lines-requires
-put-lines-requires c κs = ?
+put-lines-requires c κs =
+    let d = c .before .before .before .before in
+    let l = written d in
+    let s = begun d in
+    let r = chosen-room (s .pre .0) (factor-a d) (factor-b d) _ (l .2) in
+    ((l .0, l .1, set-small (input s) (s .args .set) (s .pre .0 .first), omega (arith, r .0)), omega (arith, r .1, s .pre .3))
 
--- src/lib.rt:42:1
 same-length-9 : tie.Need-same-length-9
 same-length-9 c = search needs
 
--- src/lib.rt:42:1
 same-length-10 : tie.Need-same-length-10
 same-length-10 c = search needs
 
--- src/lib.rt:42:1
 same-length-11 : tie.Need-same-length-11
 same-length-11 c = search needs
 
--- src/lib.rt:42:1
 same-length-12 : tie.Need-same-length-12
 same-length-12 c = search needs
 
--- src/lib.rt:42:1
 returns-4 : tie.Need-returns-4
-returns-4 c = ?
+returns-4 c =
+    let w = c .before .before in
+    let d = w .before .before .before .before .before in
+    let o = d .before .before .before .before in
+    let m = o .before in
+    let p = m .before .before .before .before in
+    let s = begun d in
+    writes-as (w .put-lines .ensures)
+    (ap (productLines (s .args .set)) (written d .2)
+    ∙ sym (printed-product (s .pre .0) (factor-a d) (second-is (p .before .before .before .before)) (factor-b d) (third-is (m .before))
+    (sym (ap length (more-is m)) ∙ omega (arith, o .if3 .left)))) refl
 
 pub after-first-spec : {M : Type 1} → statement M
 after-first-spec =
