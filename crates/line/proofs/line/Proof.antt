@@ -1,105 +1,169 @@
+-- `line` prints what the definition says at each of its exits, the tests before it passed.
+-- Assumes nothing.
+use mathlib.Core.Path.{_≡_, refl, sym, _∙_}
+use Prim.Native.Nat.{_≤_}
+use native.Mathlib.Omega.{arith}
+use lib.Dec.{lit<}
+use lib.ListN.{length, take}
+use lib.Seq.{length-take-le}
+use denote.Ref.{now}
 use borrow.Author.Needs.{needs}
+use Rattle.answers.specs.declared.Parameters.{Parameters}
+use Rattle.answers.specs.declared.SetChoice.the-variants.{Known}
+use Rattle.answers.specs.Sets.{setOf}
+use Rattle.answers.proofs.SetLaws.{IsSet, known-set}
+use Rattle.text.specs.declared.Number.the-variants.{Is}
+use Rattle.text.proofs.WriteLaws.{writes-as}
+use Rattle.line.specs.Chosen.{Chosen}
+use Rattle.line.specs.Input.{setIn}
+use Rattle.line.specs.Line.{Line}
+use Rattle.line.proofs.OutputLaws.{answer-short}
+use Rattle.line.proofs.Printed.{printed-long, printed-first, printed-unknown}
 use Rattle.line.proofs.line.Statement.{statement}
 use Rattle.line.proofs.line.Tie as tie
-use Rattle.line.proofs.line.Reads as reads
-use Rattle.line.proofs.line.Lts as lts
-use Rattle.answers.proofs.set_of.Reads as set-of-reads
-use Rattle.line.proofs.after_first.Reads as after-first-reads
-use Rattle.line.proofs.input.set_in.Reads as set-in-reads
-use Rattle.line.proofs.numbers.Reads as numbers-reads
-use Rattle.line.proofs.output.put_answer.Reads as put-answer-reads
 
--- src/lib.rt:73:9
+-- ---- what is known where the number is read, and where the set is known
+
+abbrev start : tie.After-set → tie.Start
+start c = c .before .before .before .before .before
+
+first : (c : tie.After-set) → setIn (now (start c .args .input)) ≡ Is (c .set .given .0 .0)
+first c = sym (c .before .before .set-in .ensures) ∙ c .set .given .1
+
+abbrev number : tie.After-s → tie.After-set
+number c = c .before .before .before .before
+
+abbrev chosen : tie.After-s → Parameters
+chosen c = c .s .given .0 .0
+
+known : (c : tie.After-s) → setOf (number c .set .given .0 .0) ≡ Known (chosen c)
+known c = sym (c .before .before .set-of .ensures) ∙ c .s .given .1
+
+set : (c : tie.After-s) → IsSet (number c .set .given .0 .0) (chosen c)
+set c = known-set _ _ (known c)
+
+-- ---- the needs
+
 put-answer-requires : tie.Need-put-answer-requires
-put-answer-requires c κs = ?
+put-answer-requires c κs =
+    let s = c .before .before .before in
+    let room : 16384 ≤ length (now (s .args .output)) = search needs in
+    (lit< tt, omega (arith, answer-short 7 0 (lit< tt) (lit< tt), room))
 
--- src/lib.rt:73:9
 returns : tie.Need-returns
-returns c = ?
+unfolding Line
+returns c =
+    let s = c .before .before .before .before in
+    writes-as (c .put-answer .ensures) (sym (printed-long (now (s .args .input)) (c .before .before .if1 .taken))) refl
 
--- src/lib.rt:75:11
 set-in-requires : tie.Need-set-in-requires
 set-in-requires c κs = search needs
 
--- src/lib.rt:76:41
 enum-told : tie.Need-enum-told
 enum-told c = search needs
 
--- src/lib.rt:76:30
 put-answer-requires-2 : tie.Need-put-answer-requires-2
-put-answer-requires-2 c κs = ?
+put-answer-requires-2 c κs =
+    let s = c .before .before .before .before .before .before in
+    let room : 16384 ≤ length (now (s .args .output)) = search needs in
+    (lit< tt, omega (arith, answer-short 7 1 (lit< tt) (lit< tt), room))
 
--- src/lib.rt:77:20
 enum-known-set : tie.Need-enum-known-set
 enum-known-set c = search needs
 
--- src/lib.rt:77:34
 set-of-requires : tie.Need-set-of-requires
 set-of-requires c κs = search needs
 
--- src/lib.rt:78:46
 enum-told-2 : tie.Need-enum-told-2
 enum-told-2 c = search needs
 
--- src/lib.rt:78:35
 put-answer-requires-3 : tie.Need-put-answer-requires-3
-put-answer-requires-3 c κs = ?
+put-answer-requires-3 c κs =
+    let s = start (c .before .before .before .before .before) in
+    let room : 16384 ≤ length (now (s .args .output)) = search needs in
+    (lit< tt, omega (arith, answer-short 1 0 (lit< tt) (lit< tt), room))
 
--- src/lib.rt:79:30
 enum-known-s : tie.Need-enum-known-s
 enum-known-s c = search needs
 
--- src/lib.rt:81:29
 numbers-requires : tie.Need-numbers-requires
 numbers-requires c κs = search needs
 
--- src/lib.rt:82:29
 numbers-requires-2 : tie.Need-numbers-requires-2
 numbers-requires-2 c κs = search needs
 
--- src/lib.rt:83:29
 numbers-requires-3 : tie.Need-numbers-requires-3
 numbers-requires-3 c κs = search needs
 
--- src/lib.rt:84:41
+-- n numbers have room in each of the three lists
+room-a : (c : tie.After-numbers3) → let k = c .before .before .before .before in chosen k .n ≤ length (c .before .before .numbers .result)
+room-a c = omega (arith, set (c .before .before .before .before) .small, c .before .before .numbers .ensures)
+
+room-b : (c : tie.After-numbers3) → let k = c .before .before .before .before in chosen k .n ≤ length (c .before .numbers2 .result)
+room-b c = omega (arith, set (c .before .before .before .before) .small, c .before .numbers2 .ensures)
+
+room-c : (c : tie.After-numbers3) → let k = c .before .before .before .before in chosen k .n ≤ length (c .numbers3 .result)
+room-c c = omega (arith, set (c .before .before .before .before) .small, c .numbers3 .ensures)
+
 array-borrow-prefix-a : tie.Need-array-borrow-prefix-a
-array-borrow-prefix-a c = ?
+array-borrow-prefix-a c = room-a c
 
--- src/lib.rt:84:41
 slice-aggregate-after-first : tie.Need-slice-aggregate-after-first
-slice-aggregate-after-first c = ?
+slice-aggregate-after-first c = sym (length-take-le _ _ (room-a (c .before)))
 
--- src/lib.rt:84:54
 array-borrow-prefix-b : tie.Need-array-borrow-prefix-b
-array-borrow-prefix-b c = ?
+array-borrow-prefix-b c = room-b (c .before)
 
--- src/lib.rt:84:54
 slice-aggregate-after-first-2 : tie.Need-slice-aggregate-after-first-2
-slice-aggregate-after-first-2 c = ?
+slice-aggregate-after-first-2 c = sym (length-take-le _ _ (room-b (c .before .before)))
 
--- src/lib.rt:84:67
 array-borrow-prefix-c : tie.Need-array-borrow-prefix-c
-array-borrow-prefix-c c = ?
+array-borrow-prefix-c c = room-c (c .before .before)
 
--- src/lib.rt:84:67
 slice-aggregate-after-first-3 : tie.Need-slice-aggregate-after-first-3
-slice-aggregate-after-first-3 c = ?
+slice-aggregate-after-first-3 c = sym (length-take-le _ _ (room-c (c .before .before .before)))
 
--- src/lib.rt:84:17
 after-first-requires : tie.Need-after-first-requires
-after-first-requires c κs = ?
+after-first-requires c κs =
+    let m = c .before .before .before .before in
+    let k = m .before .before .before .before in
+    let s = start (number k) in
+    let a = length-take-le (chosen k .n) (m .before .before .numbers .result) (room-a m) in
+    let room : 16384 ≤ length (now (s .args .output)) = search needs in (
+      record {
+        parameters = chosen k;
+        short = number k .before .before .before .if1 .left;
+        first = first (number k);
+        known = known k;
+        size = sym a;
+      },
+      length-take-le _ _ (room-b m) ∙ sym a,
+      length-take-le _ _ (room-c m) ∙ sym a,
+      room,
+    )
 
--- src/lib.rt:69:1
 returns-2 : tie.Need-returns-2
-returns-2 c = ?
+unfolding Line
+returns-2 c =
+    let e = c .before .before in
+    let i = e .before .before in
+    let s = i .before .before .before in
+    writes-as (c .put-answer2 .ensures)
+    (sym (printed-first (now (s .args .input)) (i .before .if1 .left) (sym (i .set-in .ensures) ∙ e .enum-told .given .1))) refl
 
--- src/lib.rt:69:1
 returns-3 : tie.Need-returns-3
-returns-3 c = ?
+unfolding Line
+returns-3 c =
+    let e = c .before .before in
+    let o = e .before .before in
+    let k = o .before .before in
+    let s = start k in
+    writes-as (c .put-answer3 .ensures)
+    (sym (printed-unknown (now (s .args .input)) (k .before .before .before .if1 .left) (k .set .given .0 .0) (first k) (sym (o .set-of .ensures) ∙ e .enum-told2 .given .1))) refl
 
--- src/lib.rt:69:1
 returns-4 : tie.Need-returns-4
-returns-4 c = ?
+unfolding Line
+returns-4 c = c .before .before .before .after-first .ensures
 
 pub line-spec : {M : Type 1} → statement M
 line-spec =
