@@ -89,3 +89,9 @@ writes-nothing l at = record { content = sym (write-nothing l at); end = sym (ad
 -- a store
 pub writes-byte : (l : List ℕ) (at b : ℕ) → at < length l → Writes l at (b ∷ []) (set l at b) (at + 1)
 writes-byte l at b h = record { content = write-byte l at b h; end = refl }
+
+-- what is written lies in the buffer
+pub writes-within : (l : List ℕ) (at : ℕ) (s m : List ℕ) (r : ℕ) → at ≤ length l → Writes l at s m r → r ≤ length m
+unfolding write
+writes-within l at s m r h w =
+    omega (arith, w .end, ap length (w .content), length-append (take at l) (s ++ drop (at + length s) l), length-append s (drop (at + length s) l), length-take-le at l h)
