@@ -7,6 +7,7 @@ use Rattle.answers.specs.declared.Answer.{Answer}
 use Rattle.calls.specs.Product.{Product}
 use Rattle.calls.specs.Transform.{Transform}
 use Rattle.calls.specs.Reverse.{Reverse}
+use Rattle.line.specs.Line.{Line}
 use Rattle.answers.proofs.AnswerLaws.{one-answer}
 
 module _ (set : ℕ) {r s : Answer} {x y : List ℕ} where
@@ -21,3 +22,8 @@ module _ (set : ℕ) {r s : Answer} {x y : List ℕ} where
   pub reverse-unique : (a before : List ℕ) → Reverse set a before r x → Reverse set a before s y → (r ≡ s) × (x ≡ y)
   unfolding Reverse
   reverse-unique a before p q = (one-answer p q, p .content ∙ sym (q .content))
+
+-- ringline's function: the bytes that it prints, and the buffer that they stand in
+pub line-unique : (input before : List ℕ) {r s : ℕ} {x y : List ℕ} → Line input before r x → Line input before s y → (r ≡ s) × (x ≡ y)
+unfolding Line
+line-unique input before p q = (p .end ∙ sym (q .end), p .content ∙ sym (q .content))
