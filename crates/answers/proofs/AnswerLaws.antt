@@ -8,16 +8,16 @@ use Rattle.answers.specs.declared.Answer.{Answer}
 use Rattle.answers.specs.declared.Answer.the-variants.{Done, UnknownSet, WrongLength, TooLarge, ZeroSlot, BadMark, Differs, Malformed}
 use Rattle.answers.specs.Answers.{numberOf, placeOf, Reply, Outcome}
 
--- the case with this number and place
+-- the case with this number and place: the numbers differ from one another
 answerAt : ℕ → ℕ → Answer
 answerAt n p =
-    cond (eqb n 0) Done
-    (cond (eqb n 1) UnknownSet
-    (cond (eqb n 2) WrongLength
-    (cond (eqb n 3) (TooLarge p)
-    (cond (eqb n 4) (ZeroSlot p)
-    (cond (eqb n 5) (BadMark p)
-    (cond (eqb n 6) Differs
+    cond (eqb n (numberOf Done)) Done
+    (cond (eqb n (numberOf UnknownSet)) UnknownSet
+    (cond (eqb n (numberOf WrongLength)) WrongLength
+    (cond (eqb n (numberOf (TooLarge p))) (TooLarge p)
+    (cond (eqb n (numberOf (ZeroSlot p))) (ZeroSlot p)
+    (cond (eqb n (numberOf (BadMark p))) (BadMark p)
+    (cond (eqb n (numberOf Differs)) Differs
     (Malformed p)))))))
 
 answerAt-back : (r : Answer) → answerAt (numberOf r) (placeOf r) ≡ r

@@ -35,8 +35,7 @@ module _ (set : ℕ) (fits : Parameters → Bool) (rest : Parameters → Reply) 
 -- where no number is above 3456, the rest
 pub clear : (inputs : List (List ℕ)) (rest : Reply) → length (flatten inputs) ≤ firstThrough tooLarge inputs → inRange inputs rest ≡ rest
 unfolding inRange
-clear inputs rest h =
-    ap (λ b. cond b (reply 3 (firstThrough tooLarge inputs)) rest) (le-ltb (firstThrough tooLarge inputs) (length (flatten inputs)) h)
+clear inputs rest h = simp (le-ltb (firstThrough tooLarge inputs) (length (flatten inputs)) h)
 
 -- ---- so what is owed at each exit
 

@@ -1,13 +1,11 @@
 -- Two elements of a known set are multiplied: no refusal applies.
 -- Assumes nothing.
-use mathlib.Core.Bool.{true, _&&_, cond}
 use mathlib.Core.List.{List, [], _∷_, flatten}
-use mathlib.Core.Path.{_≡_, ap, ap₂, _∙_}
+use mathlib.Core.Path.{_≡_, ap, _∙_}
 use Prim.Native.Nat.{ℕ, _≤_}
 use native.Mathlib.Omega.{arith}
-use lib.Dec.{eqb}
 use lib.ListN.{length}
-use borrow.Author.Tests.{eq-eqb}
+use borrow.Author.Tests.{eq-eqb, le-ltb}
 use Rattle.lists.specs.First.{firstThrough}
 use Rattle.residue.specs.Large.{tooLarge, firstLarge}
 use Rattle.residue.specs.Residues.{Residues}
@@ -15,10 +13,9 @@ use Rattle.answers.specs.declared.Answer.{Answer}
 use Rattle.answers.specs.declared.Parameters.{Parameters}
 use Rattle.answers.specs.declared.SetChoice.the-variants.{Known}
 use Rattle.answers.specs.Answers.{numberOf, placeOf, Reply, reply, leaves}
-use Rattle.answers.specs.Sets.{setOf, inRange}
+use Rattle.answers.specs.Sets.{setOf, forSet, inOrder, inRange}
 use Rattle.lists.proofs.FirstLaws.{length-through, length-one, through-past, through-one}
 use Rattle.residue.proofs.LargeLaws.{none-large}
-use Rattle.answers.proofs.Exits.{in-order, clear}
 use Rattle.calls.specs.Product.{productReply, productOf, Product}
 
 module _ (set : ℕ) (s : Parameters) (known : setOf set ≡ Known s) (a b : List ℕ) (ra : Residues (s .n) a) (rb : Residues (s .n) b) where
@@ -39,11 +36,15 @@ module _ (set : ℕ) (s : Parameters) (known : setOf set ≡ Known s) (a b : Lis
 
   -- the answer is 0
   pub product-answers : (room : ℕ) → room ≡ s .n → productReply set a b room ≡ reply 0 0
-  unfolding productReply
+  unfolding productReply inOrder forSet inRange
   product-answers room e =
-      in-order set (λ p. eqb (length a) (p .n) && (eqb (length b) (p .n) && eqb room (p .n))) (λ p. inRange (a ∷ b ∷ []) (reply 0 0)) s known
-      (simp (eq-eqb (length a) (s .n) (ra .long), eq-eqb (length b) (s .n) (rb .long), eq-eqb room (s .n) e))
-      ∙ clear (a ∷ b ∷ []) (reply 0 0) none-too-large
+      simp (
+        known,
+        eq-eqb (length a) (s .n) (ra .long),
+        eq-eqb (length b) (s .n) (rb .long),
+        eq-eqb room (s .n) e,
+        le-ltb (firstThrough tooLarge (a ∷ b ∷ [])) (length (flatten (a ∷ b ∷ []))) none-too-large,
+      )
 
   -- so the call answers 0 and writes the product
   pub product-done : (before : List ℕ) (r : Answer) (after : List ℕ) → length before ≡ s .n → Product set a b before r after

@@ -1,17 +1,18 @@
 -- `set_of` yields the set's parameters: each arm of the match is a case of the definition.
 -- Assumes nothing.
-use borrow.Author.Tests.{eq-eqb, ne-eqb}
+use mathlib.Core.Path.{sym, ap}
+use borrow.Author.Tests.{ne-eqb}
 use Rattle.answers.specs.Sets.{parametersOf, setOf}
 use Rattle.answers.proofs.set_of.Statement.{statement}
 use Rattle.answers.proofs.set_of.Tie as tie
 
 returns : tie.Need-returns
 unfolding setOf parametersOf
-returns c = simp (c .match .keys1)
+returns c = sym (ap setOf (c .match .keys1))
 
 returns-2 : tie.Need-returns-2
 unfolding setOf parametersOf
-returns-2 c = simp (c .match .keys2)
+returns-2 c = sym (ap setOf (c .match .keys2))
 
 returns-3 : tie.Need-returns-3
 unfolding setOf
