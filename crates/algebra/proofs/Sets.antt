@@ -1,4 +1,4 @@
--- The roots of the sets: w = 7^r, where r times 6h is 3456, the order of 7. All that the transform asks of w follows, once over h.
+-- The root of a set: w = 7^r, where r times 6h is 3456, the order of 7. All that the transform asks of w follows, once over h.
 -- Assumes nothing.
 use mathlib.Core.Path.{_≡_, refl, sym, ap, _∙_, subst}
 use Prim.Native.Nat.{ℕ, zero, suc, _*_, _/_, _≤_, _<_}
@@ -13,18 +13,6 @@ use Rattle.algebra.proofs.Ring.{pow, mul-comm}
 use Rattle.algebra.proofs.Sixth.{Sixth}
 use Rattle.algebra.proofs.Root.{Root}
 use Rattle.algebra.proofs.Field.{F, ι, ι-keeps, ι-neg, ι-powq, ι-count, ι-inverse, keeps-nil}
-
--- ---- the two sets, by computed tests
-
-pub root-576 : IsRoot 288 49
-unfolding powq
-root-576 = record { log = 2; turns = refl; root = refl }
-
-pub root-1152 : IsRoot 576 7
-unfolding powq
-root-1152 = record { log = 1; turns = refl; root = refl }
-
--- ---- what follows
 
 -- a factor of 1 is not 0
 unit-positive : (a b : ℕ) → mulq a b ≡ 1 → 0 < a

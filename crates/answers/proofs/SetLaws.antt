@@ -1,14 +1,13 @@
 -- What is known of a set's parameters, one record for both sets: the lengths fit n = 2h, and the root has the order 6h.
 -- Assumes nothing.
 use mathlib.Core.Bool.{Bool, true, false, cond}
-use mathlib.Core.Path.{_≡_, refl, sym, ap}
+use mathlib.Core.Path.{_≡_, refl}
 use Prim.Native.Nat.{ℕ, _+_, _*_, _≤_}
 use native.Mathlib.Omega.{arith}
 use lib.Dec.{eqb}
 use borrow.Author.Tests.{eqb-true}
 use Rattle.residue.specs.Field.{generator, powq}
 use Rattle.answers.specs.declared.Parameters.{Parameters}
-use Rattle.answers.specs.declared.SetChoice.{SetChoice}
 use Rattle.answers.specs.declared.SetChoice.the-variants.{Known, Unknown}
 use Rattle.answers.specs.Sets.{parametersOf, setOf}
 

@@ -1,10 +1,10 @@
 -- The product in a set that the first line has chosen: the call answers 0, and what it writes can be printed.
 -- Assumes nothing.
 use mathlib.Core.List.{List, []}
-use mathlib.Core.Path.{_≡_, sym, ap, _∙_, subst}
+use mathlib.Core.Path.{_≡_, sym, _∙_, subst}
 use Prim.Native.Nat.{ℕ, _≤_, _<_}
 use native.Mathlib.Omega.{arith}
-use lib.ListN.{length, getD}
+use lib.ListN.{length}
 use Rattle.residue.specs.Residues.{Residues}
 use Rattle.algebra.specs.Numbers.{residues}
 use Rattle.algebra.specs.Product.{product}

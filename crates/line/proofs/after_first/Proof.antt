@@ -8,7 +8,6 @@ use native.Mathlib.Omega.{arith}
 use lib.Dec.{lit<}
 use lib.ListN.{length}
 use denote.Ref.{now}
-use borrow.Author.Needs.{needs}
 use borrow.Author.Tests.{not-true, not-false}
 use Rattle.answers.specs.Answers.{numberOf, placeOf}
 use Rattle.calls.specs.Product.{productOf}
@@ -109,13 +108,13 @@ written c =
 -- ---- the needs
 
 past-requires : tie.Need-past-requires
-past-requires c κs = search needs
+past-requires c κs = tt
 
 slice-aggregate-polynomial-in : tie.Need-slice-aggregate-polynomial-in
-slice-aggregate-polynomial-in c = search needs
+slice-aggregate-polynomial-in c = omega arith
 
 polynomial-in-requires : tie.Need-polynomial-in-requires
-polynomial-in-requires c κs = search needs
+polynomial-in-requires c κs = tt
 
 put-answer-requires : tie.Need-put-answer-requires
 put-answer-requires c κs =
@@ -123,10 +122,10 @@ put-answer-requires c κs =
     (lit< tt, omega (arith, answer-short 7 2 (lit< tt) (lit< tt), s .pre .3))
 
 same-length : tie.Need-same-length
-same-length c = search needs
+same-length c = omega arith
 
 same-length-2 : tie.Need-same-length-2
-same-length-2 c = search needs
+same-length-2 c = omega arith
 
 returns : tie.Need-returns
 returns c =
@@ -139,13 +138,13 @@ returns c =
     (reads-bad (a p) _ (subst (λ r. Reads r (a p) (polynomialIn aName (n s) (past lf (input s)))) (not-true _ (t .if1 .taken)) (second p))))) refl
 
 past-requires-2 : tie.Need-past-requires-2
-past-requires-2 c κs = search needs
+past-requires-2 c κs = tt
 
 slice-aggregate-polynomial-in-2 : tie.Need-slice-aggregate-polynomial-in-2
-slice-aggregate-polynomial-in-2 c = search needs
+slice-aggregate-polynomial-in-2 c = omega arith
 
 polynomial-in-requires-2 : tie.Need-polynomial-in-requires-2
-polynomial-in-requires-2 c κs = search needs
+polynomial-in-requires-2 c κs = tt
 
 put-answer-requires-2 : tie.Need-put-answer-requires-2
 put-answer-requires-2 c κs =
@@ -153,13 +152,13 @@ put-answer-requires-2 c κs =
     (lit< tt, omega (arith, answer-short 7 3 (lit< tt) (lit< tt), s .pre .3))
 
 same-length-3 : tie.Need-same-length-3
-same-length-3 c = search needs
+same-length-3 c = omega arith
 
 same-length-4 : tie.Need-same-length-4
-same-length-4 c = search needs
+same-length-4 c = omega arith
 
 same-length-5 : tie.Need-same-length-5
-same-length-5 c = search needs
+same-length-5 c = omega arith
 
 returns-2 : tie.Need-returns-2
 returns-2 c =
@@ -173,7 +172,7 @@ returns-2 c =
     (reads-bad (b p) _ (subst (λ r. Reads r (b p) (polynomialIn bName (n s) (past lf (past lf (input s))))) (not-true _ (t .if2 .taken)) (third p))))) refl
 
 past-requires-3 : tie.Need-past-requires-3
-past-requires-3 c κs = search needs
+past-requires-3 c κs = tt
 
 put-answer-requires-3 : tie.Need-put-answer-requires-3
 put-answer-requires-3 c κs =
@@ -181,13 +180,13 @@ put-answer-requires-3 c κs =
     (lit< tt, omega (arith, answer-short 7 4 (lit< tt) (lit< tt), s .pre .3))
 
 same-length-6 : tie.Need-same-length-6
-same-length-6 c = search needs
+same-length-6 c = omega arith
 
 same-length-7 : tie.Need-same-length-7
-same-length-7 c = search needs
+same-length-7 c = omega arith
 
 same-length-8 : tie.Need-same-length-8
-same-length-8 c = search needs
+same-length-8 c = omega arith
 
 returns-3 : tie.Need-returns-3
 returns-3 c =
@@ -201,7 +200,7 @@ returns-3 c =
     (λ e. omega (arith, t .if3 .taken, ap length (more-is m), e)))) refl
 
 product-requires : tie.Need-product-requires
-product-requires c κs = search needs
+product-requires c κs = tt
 
 put-lines-requires : tie.Need-put-lines-requires
 put-lines-requires c κs =
@@ -212,16 +211,16 @@ put-lines-requires c κs =
     ((l .0, l .1, set-small (input s) (s .args .set) (s .pre .0 .first), omega (arith, r .0)), omega (arith, r .1, s .pre .3))
 
 same-length-9 : tie.Need-same-length-9
-same-length-9 c = search needs
+same-length-9 c = omega arith
 
 same-length-10 : tie.Need-same-length-10
-same-length-10 c = search needs
+same-length-10 c = omega arith
 
 same-length-11 : tie.Need-same-length-11
-same-length-11 c = search needs
+same-length-11 c = omega arith
 
 same-length-12 : tie.Need-same-length-12
-same-length-12 c = search needs
+same-length-12 c = omega arith
 
 returns-4 : tie.Need-returns-4
 returns-4 c =

@@ -4,7 +4,7 @@ use mathlib.Core.Path.{_≡_, refl, sym, _∙_}
 use Prim.Native.Nat.{_≤_}
 use native.Mathlib.Omega.{arith}
 use lib.Dec.{lit<}
-use lib.ListN.{length, take}
+use lib.ListN.{length}
 use lib.Seq.{length-take-le}
 use denote.Ref.{now}
 use borrow.Author.Needs.{needs}
@@ -14,7 +14,6 @@ use Rattle.answers.specs.Sets.{setOf}
 use Rattle.answers.proofs.SetLaws.{IsSet, known-set}
 use Rattle.text.specs.declared.Number.the-variants.{Is}
 use Rattle.text.proofs.WriteLaws.{writes-as}
-use Rattle.line.specs.Chosen.{Chosen}
 use Rattle.line.specs.Input.{setIn}
 use Rattle.line.specs.Line.{Line}
 use Rattle.line.proofs.OutputLaws.{answer-short}
@@ -57,10 +56,10 @@ returns c =
     writes-as (c .put-answer .ensures) (sym (printed-long (now (s .args .input)) (c .before .before .if1 .taken))) refl
 
 set-in-requires : tie.Need-set-in-requires
-set-in-requires c κs = search needs
+set-in-requires c κs = tt
 
 enum-told : tie.Need-enum-told
-enum-told c = search needs
+enum-told c = omega arith
 
 put-answer-requires-2 : tie.Need-put-answer-requires-2
 put-answer-requires-2 c κs =
@@ -69,13 +68,13 @@ put-answer-requires-2 c κs =
     (lit< tt, omega (arith, answer-short 7 1 (lit< tt) (lit< tt), room))
 
 enum-known-set : tie.Need-enum-known-set
-enum-known-set c = search needs
+enum-known-set c = omega arith
 
 set-of-requires : tie.Need-set-of-requires
-set-of-requires c κs = search needs
+set-of-requires c κs = tt
 
 enum-told-2 : tie.Need-enum-told-2
-enum-told-2 c = search needs
+enum-told-2 c = omega arith
 
 put-answer-requires-3 : tie.Need-put-answer-requires-3
 put-answer-requires-3 c κs =
@@ -84,16 +83,16 @@ put-answer-requires-3 c κs =
     (lit< tt, omega (arith, answer-short 1 0 (lit< tt) (lit< tt), room))
 
 enum-known-s : tie.Need-enum-known-s
-enum-known-s c = search needs
+enum-known-s c = omega arith
 
 numbers-requires : tie.Need-numbers-requires
-numbers-requires c κs = search needs
+numbers-requires c κs = tt
 
 numbers-requires-2 : tie.Need-numbers-requires-2
-numbers-requires-2 c κs = search needs
+numbers-requires-2 c κs = tt
 
 numbers-requires-3 : tie.Need-numbers-requires-3
-numbers-requires-3 c κs = search needs
+numbers-requires-3 c κs = tt
 
 -- n numbers have room in each of the three lists
 room-a : (c : tie.After-numbers3) → let k = c .before .before .before .before in chosen k .n ≤ length (c .before .before .numbers .result)

@@ -4,7 +4,6 @@ use mathlib.Core.Path.{_≡_, refl, ap, ap₂}
 use native.Mathlib.Omega.{arith}
 use lib.ListN.{length}
 use denote.Ref.{now}
-use borrow.Author.Needs.{needs}
 use Rattle.answers.specs.Answers.{numberOf, placeOf}
 use Rattle.text.proofs.WriteLaws.{then-writes, writes-as}
 use Rattle.line.specs.Output.{answerLines, productLines}
@@ -22,7 +21,7 @@ put-answer-requires c κs =
     (omega (arith, s .pre .0), omega (arith, ap length (answered s), length-product (s .args .set) (now (s .args .list)), s .pre .1))
 
 slice-aggregate-put-number : tie.Need-slice-aggregate-put-number
-slice-aggregate-put-number c = search needs
+slice-aggregate-put-number c = omega arith
 
 put-number-requires : tie.Need-put-number-requires
 put-number-requires c κs =
@@ -40,7 +39,7 @@ put-product-requires c κs =
     )
 
 same-length : tie.Need-same-length
-same-length c = search needs
+same-length c = omega arith
 
 returns : tie.Need-returns
 unfolding productLines

@@ -1,21 +1,19 @@
 -- `first_large` counts through both lists: the first has it, or its length is counted and the second decides.
 -- Assumes nothing.
 use mathlib.Core.List.{[], _∷_}
-use mathlib.Core.Path.{sym, ap, ap₂, _∙_}
-use Prim.Native.Nat.{_+_}
+use mathlib.Core.Path.{sym, _∙_}
 use native.Mathlib.Omega.{arith}
 use denote.Ref.{now}
-use borrow.Author.Needs.{needs}
 use Rattle.residue.specs.Large.{tooLarge, firstLarge}
 use Rattle.lists.proofs.FirstLaws.{first-within, through-here, through-past, through-one}
 use Rattle.calls.proofs.product.first_large.Statement.{statement}
 use Rattle.calls.proofs.product.first_large.Tie as tie
 
 first-large-requires : tie.Need-first-large-requires
-first-large-requires c κs = search needs
+first-large-requires c κs = tt
 
 first-large-requires-2 : tie.Need-first-large-requires-2
-first-large-requires-2 c κs = search needs
+first-large-requires-2 c κs = tt
 
 add-result : tie.Need-add-result
 unfolding firstLarge

@@ -3,15 +3,14 @@
 use mathlib.Core.Bool.{_&&_}
 use mathlib.Core.Path.{ap, _∙_}
 use lib.Dec.{eqb}
-use borrow.Author.Needs.{needs}
 use Rattle.calls.proofs.product.lengths.Statement.{statement}
 use Rattle.calls.proofs.product.lengths.Tie as tie
 
 both-requires : tie.Need-both-requires
-both-requires c κs = search needs
+both-requires c κs = tt
 
 both-requires-2 : tie.Need-both-requires-2
-both-requires-2 c κs = search needs
+both-requires-2 c κs = tt
 
 returns : tie.Need-returns
 returns c =

@@ -8,7 +8,6 @@ use native.Mathlib.Omega.{arith}
 use lib.Dec.{eqb}
 use lib.ListN.{length}
 use denote.Ref.{now}
-use borrow.Author.Needs.{needs}
 use borrow.Author.Tests.{not-true, not-false}
 use Rattle.lists.specs.First.{firstThrough}
 use Rattle.residue.specs.Large.{tooLarge}
@@ -80,16 +79,16 @@ clear c = omega (arith, long (measured c), c .before .before .first-large .ensur
 -- ---- the needs
 
 set-of-requires : tie.Need-set-of-requires
-set-of-requires c κs = search needs
+set-of-requires c κs = tt
 
 enum-told : tie.Need-enum-told
-enum-told c = search needs
+enum-told c = omega arith
 
 enum-known-s : tie.Need-enum-known-s
-enum-known-s c = search needs
+enum-known-s c = omega arith
 
 lengths-requires : tie.Need-lengths-requires
-lengths-requires c κs = search needs
+lengths-requires c κs = tt
 
 returns : tie.Need-returns
 unfolding Product productReply leaves
@@ -133,7 +132,7 @@ returns-3 c =
     unknown-set (Holds s (now (s .args .out))) (s .args .set) (fits s) (rest s) (sym (c .before .before .set-of .ensures) ∙ c .enum-told .given .1) refl
 
 same-length : tie.Need-same-length
-same-length c = search needs
+same-length c = omega arith
 
 returns-4 : tie.Need-returns-4
 unfolding Product productReply productOf leaves

@@ -2,13 +2,12 @@
 -- Assumes nothing.
 use mathlib.Core.Bool.{Bool, true, _&&_}
 use mathlib.Core.List.{List, [], _∷_, flatten}
-use mathlib.Core.Path.{_≡_, refl, sym, _∙_}
+use mathlib.Core.Path.{_≡_, sym, _∙_}
 use Prim.Native.Nat.{ℕ, _≤_}
 use native.Mathlib.Omega.{arith}
 use lib.Dec.{eqb}
 use lib.ListN.{length}
 use denote.Ref.{now}
-use borrow.Author.Needs.{needs}
 use borrow.Author.Tests.{not-true, not-false}
 use Rattle.lists.specs.First.{firstThrough}
 use Rattle.residue.specs.Large.{tooLarge, firstLarge}
@@ -66,16 +65,16 @@ first c = c .first-large .ensures ∙ sym (through-one tooLarge (now (start (par
 -- ---- the needs
 
 set-of-requires : tie.Need-set-of-requires
-set-of-requires c κs = search needs
+set-of-requires c κs = tt
 
 enum-told : tie.Need-enum-told
-enum-told c = search needs
+enum-told c = omega arith
 
 enum-known-s : tie.Need-enum-known-s
-enum-known-s c = search needs
+enum-known-s c = omega arith
 
 both-requires : tie.Need-both-requires
-both-requires c κs = search needs
+both-requires c κs = tt
 
 returns : tie.Need-returns
 unfolding Tells listReply
@@ -85,7 +84,7 @@ returns c =
     wrong-length Refuses (s .args .set) (fits s) (rest s) (chosen k) (known k) (sym (c .before .both .ensures) ∙ not-true _ (c .if1 .taken)) (λ e. omega (arith, e))
 
 first-large-requires : tie.Need-first-large-requires
-first-large-requires c κs = search needs
+first-large-requires c κs = tt
 
 returns-2 : tie.Need-returns-2
 unfolding Tells listReply

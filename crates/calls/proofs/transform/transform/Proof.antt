@@ -5,7 +5,6 @@ use lib.ListN.{length}
 use denote.Ref.{now}
 use borrow.Author.Needs.{needs}
 use Rattle.algebra.specs.Transform.{image}
-use Rattle.answers.specs.declared.Parameters.{Parameters}
 use Rattle.calls.specs.declared.tests.Tested.the-variants.{Ready}
 use Rattle.calls.specs.Tests.{Tells}
 use Rattle.calls.specs.Transform.{transformOf, Transform}
@@ -23,7 +22,7 @@ passed c =
     subst (Tells (s .args .set) (now (s .args .a)) (length (now (s .args .out)))) (c .s .given .1) (c .before .before .test-list .ensures)
 
 test-list-requires : tie.Need-test-list-requires
-test-list-requires c κs = search needs
+test-list-requires c κs = tt
 
 enum-known-answer : tie.Need-enum-known-answer
 enum-known-answer c = search needs
@@ -32,7 +31,7 @@ enum-known-s : tie.Need-enum-known-s
 enum-known-s c = search needs
 
 powers-requires : tie.Need-powers-requires
-powers-requires c κs = search needs
+powers-requires c κs = tt
 
 transform-requires : tie.Need-transform-requires
 transform-requires c κs =

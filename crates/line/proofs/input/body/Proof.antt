@@ -5,7 +5,6 @@ use Prim.Native.Nat.{_≤_}
 use native.Mathlib.Omega.{arith}
 use lib.ListN.{length, drop}
 use denote.Ref.{now}
-use borrow.Author.Needs.{needs}
 use borrow.Rule.Slice.PartAt.{part-to-end}
 use Rattle.line.specs.Input.{body}
 use Rattle.line.proofs.InputLaws.{line-long}
@@ -19,7 +18,7 @@ fits c =
     omega (arith, line-long (now (s .args .name)) (now (s .args .s)) (s .pre), ap length (c .up-to .ensures))
 
 up-to-requires : tie.Need-up-to-requires
-up-to-requires c κs = search needs
+up-to-requires c κs = tt
 
 sub-result : tie.Need-sub-result
 sub-result c = fits c
@@ -28,7 +27,7 @@ part-result-start : tie.Need-part-result-start
 part-result-start c = fits c
 
 part-result-end : tie.Need-part-result-end
-part-result-end c = search needs
+part-result-end c = omega arith
 
 returns : tie.Need-returns
 unfolding body

@@ -3,20 +3,19 @@
 use mathlib.Core.Path.{sym, ap, _∙_}
 use native.Mathlib.Omega.{arith}
 use denote.Ref.{now}
-use borrow.Author.Needs.{needs}
 use Rattle.text.specs.Lines.{begins}
 use Rattle.line.proofs.InputLaws.{line-ended, line-open}
 use Rattle.line.proofs.input.is_line.Statement.{statement}
 use Rattle.line.proofs.input.is_line.Tie as tie
 
 find-requires : tie.Need-find-requires
-find-requires c κs = search needs
+find-requires c κs = tt
 
 up-to-requires : tie.Need-up-to-requires
-up-to-requires c κs = search needs
+up-to-requires c κs = tt
 
 begins-requires : tie.Need-begins-requires
-begins-requires c κs = search needs
+begins-requires c κs = tt
 
 returns : tie.Need-returns
 returns c =

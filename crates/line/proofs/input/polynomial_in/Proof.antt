@@ -11,13 +11,13 @@ use Rattle.line.proofs.input.polynomial_in.Statement.{statement}
 use Rattle.line.proofs.input.polynomial_in.Tie as tie
 
 is-line-requires : tie.Need-is-line-requires
-is-line-requires c κs = search needs
+is-line-requires c κs = tt
 
 body-requires : tie.Need-body-requires
 body-requires c κs = sym (c .before .is-line .ensures) ∙ c .if1 .taken
 
 polynomial-requires : tie.Need-polynomial-requires
-polynomial-requires c κs = search needs
+polynomial-requires c κs = tt
 
 same-length : tie.Need-same-length
 same-length c = search needs

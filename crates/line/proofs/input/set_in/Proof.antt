@@ -2,20 +2,19 @@
 -- Assumes nothing.
 use mathlib.Core.Path.{sym, ap, _∙_}
 use denote.Ref.{now}
-use borrow.Author.Needs.{needs}
 use Rattle.text.specs.Numerals.{number}
 use Rattle.line.proofs.InputLaws.{set-line, set-none}
 use Rattle.line.proofs.input.set_in.Statement.{statement}
 use Rattle.line.proofs.input.set_in.Tie as tie
 
 is-line-requires : tie.Need-is-line-requires
-is-line-requires c κs = search needs
+is-line-requires c κs = tt
 
 body-requires : tie.Need-body-requires
 body-requires c κs = let t = c .before in sym (t .before .is-line .ensures) ∙ t .if1 .taken
 
 number-requires : tie.Need-number-requires
-number-requires c κs = search needs
+number-requires c κs = tt
 
 returns : tie.Need-returns
 returns c =

@@ -4,7 +4,6 @@ use mathlib.Core.List.{_++_}
 use mathlib.Core.Path.{refl, ap, ap₂}
 use native.Mathlib.Omega.{arith}
 use lib.ListN.{length}
-use borrow.Author.Needs.{needs}
 use Rattle.answers.specs.Answers.{numberOf, placeOf}
 use Rattle.text.specs.Printing.{decimal}
 use Rattle.answers.proofs.AnswerLaws.{number-small}
@@ -16,10 +15,10 @@ use Rattle.line.proofs.output.put_answer.Statement.{statement}
 use Rattle.line.proofs.output.put_answer.Tie as tie
 
 slice-aggregate-put-number : tie.Need-slice-aggregate-put-number
-slice-aggregate-put-number c = search needs
+slice-aggregate-put-number c = omega arith
 
 number-requires : tie.Need-number-requires
-number-requires c κs = search needs
+number-requires c κs = tt
 
 put-number-requires : tie.Need-put-number-requires
 put-number-requires c κs =
@@ -31,10 +30,10 @@ put-number-requires c κs =
     )
 
 slice-aggregate-put-number-2 : tie.Need-slice-aggregate-put-number-2
-slice-aggregate-put-number-2 c = search needs
+slice-aggregate-put-number-2 c = omega arith
 
 place-requires : tie.Need-place-requires
-place-requires c κs = search needs
+place-requires c κs = tt
 
 put-number-requires-2 : tie.Need-put-number-requires-2
 put-number-requires-2 c κs =
@@ -55,7 +54,7 @@ put-number-requires-2 c κs =
     )
 
 same-length : tie.Need-same-length
-same-length c = search needs
+same-length c = omega arith
 
 returns : tie.Need-returns
 unfolding answerLines

@@ -2,7 +2,6 @@
 -- Assumes nothing.
 use native.Mathlib.Omega.{arith}
 use denote.Ref.{now}
-use borrow.Author.Needs.{needs}
 use Rattle.text.specs.Printing.{decimal}
 use Rattle.text.proofs.WriteLaws.{then-writes}
 use Rattle.line.specs.Output.{lineOf}
@@ -29,7 +28,7 @@ put-byte-requires c κs =
     omega (arith, length-line (now (s .args .name)) (decimal (s .args .v)), s .pre, p .put .ensures .end, d .put-decimal .ensures .end)
 
 same-length : tie.Need-same-length
-same-length c = search needs
+same-length c = omega arith
 
 returns : tie.Need-returns
 unfolding lineOf

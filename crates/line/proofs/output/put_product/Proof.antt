@@ -2,7 +2,6 @@
 -- Assumes nothing.
 use native.Mathlib.Omega.{arith}
 use denote.Ref.{now}
-use borrow.Author.Needs.{needs}
 use Rattle.text.specs.Printing.{printedPolynomial}
 use Rattle.text.proofs.WriteLaws.{then-writes}
 use Rattle.line.specs.Names.{productName}
@@ -12,7 +11,7 @@ use Rattle.line.proofs.output.put_product.Statement.{statement}
 use Rattle.line.proofs.output.put_product.Tie as tie
 
 slice-aggregate-put : tie.Need-slice-aggregate-put
-slice-aggregate-put c = search needs
+slice-aggregate-put c = omega arith
 
 put-requires : tie.Need-put-requires
 put-requires c κs =
@@ -33,7 +32,7 @@ put-byte-requires c κs =
     omega (arith, length-line productName (printedPolynomial (now (s .args .list))), s .pre, p .put .ensures .end, d .put-polynomial .ensures .end)
 
 same-length : tie.Need-same-length
-same-length c = search needs
+same-length c = omega arith
 
 returns : tie.Need-returns
 unfolding lineOf

@@ -2,7 +2,6 @@
 -- Assumes nothing.
 use mathlib.Core.Path.{_∙_}
 use native.Mathlib.Omega.{arith}
-use borrow.Author.Needs.{needs}
 use Rattle.ring.proofs.Sums.{sum-low}
 use Rattle.ring.proofs.ReadyLaws.{own-length}
 use Rattle.ring.proofs.ProductLaws.{dot-all, dot-within}
@@ -10,7 +9,7 @@ use Rattle.ring.proofs.product.coefficient.Statement.{statement}
 use Rattle.ring.proofs.product.coefficient.Tie as tie
 
 add-dot : tie.Need-add-dot
-add-dot c = search needs
+add-dot c = omega arith
 
 dot-requires : tie.Need-dot-requires
 dot-requires c κs =
@@ -18,10 +17,10 @@ dot-requires c κs =
     ((own-length (p .0), own-length (p .1)), (omega (arith, p .1 .long), omega arith, omega (arith, p .0 .long), omega arith))
 
 add-dot-2 : tie.Need-add-dot-2
-add-dot-2 c = search needs
+add-dot-2 c = omega arith
 
 sub-dot : tie.Need-sub-dot
-sub-dot c = search needs
+sub-dot c = omega arith
 
 dot-requires-2 : tie.Need-dot-requires-2
 dot-requires-2 c κs =

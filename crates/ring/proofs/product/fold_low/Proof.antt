@@ -1,16 +1,15 @@
--- `ring::product::fold_low` meets its contract.
+-- `fold_low` takes both parts off: the two steps put together.
 -- Assumes nothing.
 use mathlib.Core.Path.{ap, _∙_}
-use borrow.Author.Needs.{needs}
 use Rattle.residue.specs.Field.{subq}
 use Rattle.ring.proofs.product.fold_low.Statement.{statement}
 use Rattle.ring.proofs.product.fold_low.Tie as tie
 
 add-requires : tie.Need-add-requires
-add-requires c κs = search needs
+add-requires c κs = (c .pre .1, c .pre .2)
 
 sub-requires : tie.Need-sub-requires
-sub-requires c κs = search needs
+sub-requires c κs = (c .before .pre .0, c .add .ensures .1)
 
 returns : tie.Need-returns
 returns c = c .sub .ensures .0 ∙ ap (subq (c .before .before .args .own .0)) (c .before .add .ensures .0)

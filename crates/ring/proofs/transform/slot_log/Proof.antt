@@ -3,12 +3,11 @@
 use mathlib.Core.Path.{ap}
 use Prim.Native.Nat.{_*_}
 use native.Mathlib.Omega.{arith}
-use borrow.Author.Needs.{needs}
 use Rattle.ring.proofs.transform.slot_log.Statement.{statement}
 use Rattle.ring.proofs.transform.slot_log.Tie as tie
 
 exponent-requires : tie.Need-exponent-requires
-exponent-requires c κs = search needs
+exponent-requires c κs = omega arith
 
 mul-result : tie.Need-mul-result
 mul-result c = omega (arith, ap (λ e. c .before .args .step * e) (c .exponent .ensures))

@@ -3,19 +3,18 @@
 use mathlib.Core.Path.{_≡_, ap, _∙_}
 use mathlib.Core.Bool.{_&&_}
 use lib.Dec.{leb, ltb}
-use borrow.Author.Needs.{needs}
 use Rattle.text.specs.Terms.{allowed}
 use Rattle.text.proofs.read.in_range.Statement.{statement}
 use Rattle.text.proofs.read.in_range.Tie as tie
 
 both-requires : tie.Need-both-requires
-both-requires c κs = search needs
+both-requires c κs = tt
 
 both-requires-2 : tie.Need-both-requires-2
-both-requires-2 c κs = search needs
+both-requires-2 c κs = tt
 
 both-requires-3 : tie.Need-both-requires-3
-both-requires-3 c κs = search needs
+both-requires-3 c κs = tt
 
 returns : tie.Need-returns
 unfolding allowed

@@ -1,12 +1,11 @@
 -- `text::read::is_digit` meets its contract: the same two comparisons.
 -- Assumes nothing.
-use borrow.Author.Needs.{needs}
 use Rattle.text.specs.Numerals.{isDigit}
 use Rattle.text.proofs.read.is_digit.Statement.{statement}
 use Rattle.text.proofs.read.is_digit.Tie as tie
 
 both-requires : tie.Need-both-requires
-both-requires c κs = search needs
+both-requires c κs = tt
 
 returns : tie.Need-returns
 unfolding isDigit

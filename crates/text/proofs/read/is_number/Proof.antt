@@ -5,25 +5,24 @@ use mathlib.Core.Bool.{_&&_}
 use lib.Dec.{leb}
 use lib.ListN.{length}
 use denote.Ref.{now}
-use borrow.Author.Needs.{needs}
 use Rattle.text.specs.Numerals.{allDigits, isNumber}
 use Rattle.text.proofs.read.is_number.Statement.{statement}
 use Rattle.text.proofs.read.is_number.Tie as tie
 
 all-digits-requires : tie.Need-all-digits-requires
-all-digits-requires c κs = search needs
+all-digits-requires c κs = tt
 
 unpadded-requires : tie.Need-unpadded-requires
-unpadded-requires c κs = search needs
+unpadded-requires c κs = tt
 
 both-requires : tie.Need-both-requires
-both-requires c κs = search needs
+both-requires c κs = tt
 
 both-requires-2 : tie.Need-both-requires-2
-both-requires-2 c κs = search needs
+both-requires-2 c κs = tt
 
 both-requires-3 : tie.Need-both-requires-3
-both-requires-3 c κs = search needs
+both-requires-3 c κs = tt
 
 returns : tie.Need-returns
 unfolding isNumber

@@ -1,14 +1,13 @@
 -- `text::read::number` meets its contract: what passes the test is summed up.
 -- Assumes nothing.
 use mathlib.Core.Path.{sym, ap, _∙_}
-use borrow.Author.Needs.{needs}
 use Rattle.text.specs.declared.Number.the-variants.{Is}
 use Rattle.text.proofs.NumeralLaws.{number-is, number-not}
 use Rattle.text.proofs.read.number.Statement.{statement}
 use Rattle.text.proofs.read.number.Tie as tie
 
 is-number-requires : tie.Need-is-number-requires
-is-number-requires c κs = search needs
+is-number-requires c κs = tt
 
 value-requires : tie.Need-value-requires
 value-requires c κs = sym (c .before .is-number .ensures) ∙ c .if1 .taken

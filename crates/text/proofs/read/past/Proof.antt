@@ -6,7 +6,6 @@ use native.Mathlib.Omega.{arith}
 use lib.Dec.{eqb}
 use lib.ListN.{length, drop, drop-of-length-le}
 use denote.Ref.{now}
-use borrow.Author.Needs.{needs}
 use borrow.Rule.Slice.PartAt.{part-to-end}
 use Rattle.lists.specs.First.{firstWhere}
 use Rattle.lists.proofs.FirstLaws.{first-within}
@@ -19,19 +18,19 @@ within : (c : tie.After-find) → c .find .result ≤ length (now (c .before .be
 within c = let a = c .before .before .args in omega (arith, c .find .ensures, first-within (eqb (a .byte)) (now (a .s)))
 
 find-requires : tie.Need-find-requires
-find-requires c κs = search needs
+find-requires c κs = tt
 
 add-next : tie.Need-add-next
-add-next c = search needs
+add-next c = omega arith
 
 sub-result : tie.Need-sub-result
-sub-result c = search needs
+sub-result c = omega arith
 
 part-result-start : tie.Need-part-result-start
-part-result-start c = search needs
+part-result-start c = omega arith
 
 part-result-end : tie.Need-part-result-end
-part-result-end c = search needs
+part-result-end c = omega arith
 
 sub-result-2 : tie.Need-sub-result-2
 sub-result-2 c = omega (arith, within (c .before))
@@ -40,7 +39,7 @@ part-result-start-2 : tie.Need-part-result-start-2
 part-result-start-2 c = omega (arith, within (c .before))
 
 part-result-end-2 : tie.Need-part-result-end-2
-part-result-end-2 c = search needs
+part-result-end-2 c = omega arith
 
 returns : tie.Need-returns
 unfolding past

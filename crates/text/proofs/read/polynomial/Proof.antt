@@ -10,10 +10,10 @@ use Rattle.text.proofs.read.polynomial.Statement.{statement}
 use Rattle.text.proofs.read.polynomial.Tie as tie
 
 clear-requires : tie.Need-clear-requires
-clear-requires c κs = search needs
+clear-requires c κs = tt
 
 terms-into-requires : tie.Need-terms-into-requires
-terms-into-requires c κs = search needs
+terms-into-requires c κs = tt
 
 same-length : tie.Need-same-length
 same-length c = search needs

@@ -83,16 +83,16 @@ loop-holds : tie.Need-loop-holds Inv-loop μ-loop
 loop-holds c = (search needs, refl, refl)
 
 sub-rest : tie.Need-sub-rest Inv-loop μ-loop
-sub-rest c = search needs
+sub-rest c = omega arith
 
 part-rest-start : tie.Need-part-rest-start Inv-loop μ-loop
-part-rest-start c = search needs
+part-rest-start c = omega arith
 
 part-rest-end : tie.Need-part-rest-end Inv-loop μ-loop
-part-rest-end c = search needs
+part-rest-end c = omega arith
 
 find-requires : tie.Need-find-requires Inv-loop μ-loop
-find-requires c κs = search needs
+find-requires c κs = tt
 
 slice-aggregate-term : tie.Need-slice-aggregate-term Inv-loop μ-loop
 slice-aggregate-term c =
@@ -100,13 +100,13 @@ slice-aggregate-term c =
     sym (length-take-le _ _ (omega (arith, first-within (eqb comma) (text l), size-is (c .before), ap length (rest-is l))))
 
 term-requires : tie.Need-term-requires Inv-loop μ-loop
-term-requires c κs = search needs
+term-requires c κs = tt
 
 enum-told : tie.Need-enum-told Inv-loop μ-loop
-enum-told c = search needs
+enum-told c = omega arith
 
 same-length : tie.Need-same-length Inv-loop μ-loop
-same-length c = search needs
+same-length c = omega arith
 
 returns : tie.Need-returns Inv-loop μ-loop
 returns c =
@@ -115,13 +115,13 @@ returns c =
     reads-none _ (l .loop .inv .2 ∙ text-not _ _ _ (text l) (sym (term-is t) ∙ c .enum-told .given .1))
 
 enum-known-index : tie.Need-enum-known-index Inv-loop μ-loop
-enum-known-index c = search needs
+enum-known-index c = omega arith
 
 in-range-requires : tie.Need-in-range-requires Inv-loop μ-loop
-in-range-requires c κs = search needs
+in-range-requires c κs = tt
 
 same-length-2 : tie.Need-same-length-2 Inv-loop μ-loop
-same-length-2 c = search needs
+same-length-2 c = omega arith
 
 returns-2 : tie.Need-returns-2 Inv-loop μ-loop
 returns-2 c =

@@ -6,14 +6,13 @@ use lib.Dec.{eqb}
 use lib.ListN.{take}
 use lib.Seq.{length-take-le}
 use denote.Ref.{now}
-use borrow.Author.Needs.{needs}
 use Rattle.lists.proofs.FirstLaws.{first-within}
 use Rattle.text.specs.Lines.{upTo}
 use Rattle.text.proofs.read.up_to.Statement.{statement}
 use Rattle.text.proofs.read.up_to.Tie as tie
 
 find-requires : tie.Need-find-requires
-find-requires c κs = search needs
+find-requires c κs = tt
 
 slice-aggregate-result : tie.Need-slice-aggregate-result
 slice-aggregate-result c =

@@ -2,7 +2,6 @@
 -- Assumes nothing.
 use mathlib.Core.Path.{refl, ap}
 use native.Mathlib.Omega.{arith}
-use borrow.Author.Needs.{needs}
 use Rattle.text.specs.Printing.{digits, decimal}
 use Rattle.text.proofs.DecimalLaws.{length-decimal}
 use Rattle.text.proofs.WriteLaws.{writes-as}
@@ -10,7 +9,7 @@ use Rattle.text.proofs.write.put_decimal.Statement.{statement}
 use Rattle.text.proofs.write.put_decimal.Tie as tie
 
 width-requires : tie.Need-width-requires
-width-requires c κs = search needs
+width-requires c κs = tt
 
 put-digits-requires : tie.Need-put-digits-requires
 put-digits-requires c κs =
@@ -18,7 +17,7 @@ put-digits-requires c κs =
     omega (arith, c .before .width .ensures, length-decimal (s .args .v), s .pre)
 
 same-length : tie.Need-same-length
-same-length c = search needs
+same-length c = omega arith
 
 returns : tie.Need-returns
 unfolding decimal

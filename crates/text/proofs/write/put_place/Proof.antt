@@ -3,7 +3,6 @@
 use mathlib.Core.Path.{refl, sym, ap}
 use native.Mathlib.Omega.{arith}
 use lib.ListN.{length}
-use borrow.Author.Needs.{needs}
 use Rattle.text.proofs.PrintingLaws.{place-zero, place-first, place-next}
 use Rattle.text.proofs.WriteLaws.{then-writes, writes-as, writes-nothing}
 use Rattle.text.proofs.write.put_place.Statement.{statement}
@@ -19,7 +18,7 @@ put-term-requires c κs =
     (s .pre .0, omega (arith, ap length term, s .pre))
 
 same-length : tie.Need-same-length
-same-length c = search needs
+same-length c = omega arith
 
 returns-2 : tie.Need-returns-2
 returns-2 c =
@@ -42,7 +41,7 @@ put-term-requires-2 c κs =
     (s .pre .0, omega (arith, ap length term, s .pre, b .put-byte .ensures .end))
 
 same-length-2 : tie.Need-same-length-2
-same-length-2 c = search needs
+same-length-2 c = omega arith
 
 returns-3 : tie.Need-returns-3
 returns-3 c =

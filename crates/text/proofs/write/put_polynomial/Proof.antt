@@ -28,10 +28,10 @@ unfolding printedPolynomial printedTerms joined
 loop-holds c = (search needs, refl, writes-nothing _ _)
 
 mul-put-place : tie.Need-mul-put-place Inv-loop μ-loop
-mul-put-place c = search needs
+mul-put-place c = omega arith
 
 shared-slice-read-put-place : tie.Need-shared-slice-read-put-place Inv-loop μ-loop
-shared-slice-read-put-place c = search needs
+shared-slice-read-put-place c = omega arith
 
 put-place-requires : tie.Need-put-place-requires Inv-loop μ-loop
 put-place-requires c κs =
@@ -44,10 +44,10 @@ put-place-requires c κs =
     (omega (arith, s .pre), omega (arith, ap length turn, parts, printed-within list (i + 1), s .pre, l .loop .inv .1, l .loop .inv .2 .end))
 
 add-i : tie.Need-add-i Inv-loop μ-loop
-add-i c = search needs
+add-i c = omega arith
 
 loop-less : tie.Need-loop-less Inv-loop μ-loop
-loop-less c = search needs
+loop-less c = omega arith
 
 loop-again : tie.Need-loop-again Inv-loop μ-loop
 loop-again c =
@@ -62,7 +62,7 @@ loop-again c =
     )
 
 same-length : tie.Need-same-length Inv-loop μ-loop
-same-length c = search needs
+same-length c = omega arith
 
 returns : tie.Need-returns Inv-loop μ-loop
 returns c =

@@ -1,7 +1,6 @@
 -- `text::write::put_term` meets its contract: the index, the colon and the value, one after the other.
 -- Assumes nothing.
 use native.Mathlib.Omega.{arith}
-use borrow.Author.Needs.{needs}
 use Rattle.text.specs.Printing.{printedTerm}
 use Rattle.text.proofs.PrintingLaws.{length-term}
 use Rattle.text.proofs.WriteLaws.{then-writes}
@@ -27,7 +26,7 @@ put-decimal-requires-2 c κs =
     (omega arith, omega (arith, length-term (s .args .i) (s .args .v), s .pre, i .put-decimal .ensures .end, b .put-byte .ensures .end))
 
 same-length : tie.Need-same-length
-same-length c = search needs
+same-length c = omega arith
 
 returns : tie.Need-returns
 unfolding printedTerm
