@@ -6,7 +6,8 @@ use Prim.Native.Nat.{ℕ, _<_}
 use lib.Dec.{eqb, lit<}
 use Rattle.answers.specs.declared.Answer.{Answer}
 use Rattle.answers.specs.declared.Answer.the-variants.{Done, UnknownSet, WrongLength, TooLarge, ZeroSlot, BadMark, Differs, Malformed}
-use Rattle.answers.specs.Answers.{numberOf, placeOf, Reply, Outcome}
+use Rattle.answers.specs.Answers.{numberOf, placeOf}
+use Rattle.answers.specs.Replies.{Reply, Outcome}
 
 -- the case with this number and place: the numbers differ from one another
 answerAt : ℕ → ℕ → Answer

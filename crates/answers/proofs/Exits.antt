@@ -13,8 +13,9 @@ use Rattle.answers.specs.declared.Answer.{Answer}
 use Rattle.answers.specs.declared.Answer.the-variants.{Done, UnknownSet, WrongLength, TooLarge}
 use Rattle.answers.specs.declared.Parameters.{Parameters}
 use Rattle.answers.specs.declared.SetChoice.the-variants.{Known, Unknown}
-use Rattle.answers.specs.Answers.{Reply, reply, Outcome}
-use Rattle.answers.specs.Sets.{setOf, forSet, inOrder, inRange}
+use Rattle.answers.specs.Replies.{Reply, reply, Outcome}
+use Rattle.answers.specs.Sets.{setOf, forSet}
+use Rattle.answers.specs.Tests.{inOrder, inRange}
 
 -- what is so of the set that is known
 pub for-known : {A : Type 0} (set : ℕ) (s : Parameters) (other : A) (f : Parameters → A) → setOf set ≡ Known s → forSet (setOf set) other f ≡ f s

@@ -1,2 +1,4 @@
 pub mod Answers
+pub mod Replies
 pub mod Sets
+pub mod Tests

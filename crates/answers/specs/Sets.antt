@@ -1,16 +1,11 @@
--- "The set number decides every length, the root and the number of slots", and the tests that every call makes by them.
+-- "The set number decides every length, the root and the number of slots".
 -- Assumes nothing: these are definitions.
-use mathlib.Core.Bool.{Bool, cond}
-use mathlib.Core.List.{List, flatten}
+use mathlib.Core.Bool.{cond}
 use Prim.Native.Nat.{ℕ, _+_, _*_, _/_}
-use lib.Dec.{eqb, ltb}
-use lib.ListN.{length}
-use Rattle.lists.specs.First.{firstThrough}
-use Rattle.residue.specs.Large.{tooLarge}
+use lib.Dec.{eqb}
 use Rattle.answers.specs.declared.Parameters.{Parameters}
 use Rattle.answers.specs.declared.SetChoice.{SetChoice}
 use Rattle.answers.specs.declared.SetChoice.the-variants.{Known, Unknown}
-use Rattle.answers.specs.Answers.{Reply, reply}
 
 -- every length of the table of calls, of the set n whose root is w = 7^step
 unfoldable pub parametersOf : ℕ → ℕ → ℕ → Parameters
@@ -38,12 +33,3 @@ setOf set = cond (eqb set 576) (Known (parametersOf 576 49 2)) (cond (eqb set 11
 unfoldable pub forSet : {A : Type 0} → SetChoice → A → (Parameters → A) → A
 forSet Unknown other f = other
 forSet (Known s) other f = f s
-
--- "The library's calls test in the order of the numbers": 1, "set is not 576 or 1152"; 2, "some lent buffer hasn't its exact length"
-unfoldable pub inOrder : ℕ → (Parameters → Bool) → (Parameters → Reply) → Reply
-inOrder set fits rest = forSet (setOf set) (reply 1 0) (λ s. cond (fits s) (rest s) (reply 2 0))
-
--- 3: "a list number or packed group is above 3456", "first such, counted through the inputs as listed"; otherwise the rest decides
-unfoldable pub inRange : List (List ℕ) → Reply → Reply
-inRange inputs rest =
-    cond (ltb (firstThrough tooLarge inputs) (length (flatten inputs))) (reply 3 (firstThrough tooLarge inputs)) rest

@@ -12,8 +12,10 @@ use Rattle.residue.specs.Residues.{Residues}
 use Rattle.answers.specs.declared.Answer.{Answer}
 use Rattle.answers.specs.declared.Parameters.{Parameters}
 use Rattle.answers.specs.declared.SetChoice.the-variants.{Known}
-use Rattle.answers.specs.Answers.{numberOf, placeOf, Reply, reply, leaves}
-use Rattle.answers.specs.Sets.{setOf, forSet, inOrder, inRange}
+use Rattle.answers.specs.Answers.{numberOf, placeOf}
+use Rattle.answers.specs.Replies.{Reply, reply, leaves}
+use Rattle.answers.specs.Sets.{setOf, forSet}
+use Rattle.answers.specs.Tests.{inOrder, inRange}
 use Rattle.lists.proofs.FirstLaws.{length-through, length-one, through-past, through-one}
 use Rattle.residue.proofs.LargeLaws.{none-large}
 use Rattle.calls.specs.Product.{productReply, productOf, Product}

@@ -12,7 +12,7 @@ use Rattle.residue.specs.Residues.{Residues}
 use Rattle.answers.specs.declared.Answer.{Answer}
 use Rattle.answers.specs.declared.Answer.the-variants.{Done}
 use Rattle.answers.specs.declared.Parameters.{Parameters}
-use Rattle.answers.specs.Answers.{leaves, Outcome}
+use Rattle.answers.specs.Replies.{leaves, Outcome}
 use Rattle.answers.specs.Sets.{setOf, forSet}
 use Rattle.ring.specs.Ready.{Ready}
 use Rattle.answers.proofs.Exits as X

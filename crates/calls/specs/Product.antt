@@ -9,8 +9,9 @@ use lib.ListN.{length}
 use Rattle.algebra.specs.Numbers.{residues}
 use Rattle.algebra.specs.Product.{product}
 use Rattle.answers.specs.declared.Answer.{Answer}
-use Rattle.answers.specs.Answers.{Reply, reply, leaves, Outcome}
-use Rattle.answers.specs.Sets.{setOf, forSet, inOrder, inRange}
+use Rattle.answers.specs.Replies.{Reply, reply, leaves, Outcome}
+use Rattle.answers.specs.Sets.{setOf, forSet}
+use Rattle.answers.specs.Tests.{inOrder, inRange}
 
 -- 1, 2, 3 or 0, in that order; `room` is the length of the list that is written
 unfoldable pub productReply : ℕ → List ℕ → List ℕ → ℕ → Reply

@@ -6,7 +6,7 @@ use Prim.Native.Nat.{ℕ}
 use lib.ListN.{length}
 use Rattle.algebra.specs.Transform.{reverse}
 use Rattle.answers.specs.declared.Answer.{Answer}
-use Rattle.answers.specs.Answers.{leaves, Outcome}
+use Rattle.answers.specs.Replies.{leaves, Outcome}
 use Rattle.answers.specs.Sets.{setOf, forSet}
 use Rattle.calls.specs.Transform.{listReply}
 

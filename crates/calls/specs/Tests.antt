@@ -6,7 +6,7 @@ use mathlib.Core.Path.{_≡_}
 use Prim.Native.Nat.{ℕ}
 use Rattle.residue.specs.Residues.{Residues}
 use Rattle.answers.specs.declared.SetChoice.the-variants.{Known}
-use Rattle.answers.specs.Answers.{reply, Outcome}
+use Rattle.answers.specs.Replies.{reply, Outcome}
 use Rattle.answers.specs.Sets.{setOf}
 use Rattle.calls.specs.declared.tests.Tested.{Tested}
 use Rattle.calls.specs.declared.tests.Tested.the-variants.{Ready, Refused}

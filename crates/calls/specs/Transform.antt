@@ -8,8 +8,9 @@ use lib.Dec.{eqb}
 use lib.ListN.{length}
 use Rattle.algebra.specs.Transform.{image}
 use Rattle.answers.specs.declared.Answer.{Answer}
-use Rattle.answers.specs.Answers.{Reply, reply, leaves, Outcome}
-use Rattle.answers.specs.Sets.{setOf, forSet, inOrder, inRange}
+use Rattle.answers.specs.Replies.{Reply, reply, leaves, Outcome}
+use Rattle.answers.specs.Sets.{setOf, forSet}
+use Rattle.answers.specs.Tests.{inOrder, inRange}
 
 -- 1, 2, 3 or 0, in that order, for a call that takes one list to another; `room` is the length of the list that is written
 unfoldable pub listReply : ℕ → List ℕ → ℕ → Reply

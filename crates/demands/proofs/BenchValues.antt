@@ -19,7 +19,8 @@ use Rattle.bits.specs.Blocks.{blocks}
 use Rattle.bits.specs.Listing.{place, goesTo}
 use Rattle.small.specs.Encoding.{xor, encodeBit, decodeBit}
 use Rattle.packing.specs.Packing.{threeBytes, packed, twoGroups, groups}
-use Rattle.answers.specs.Sets.{parametersOf, setOf, forSet, inRange}
+use Rattle.answers.specs.Sets.{parametersOf, setOf, forSet}
+use Rattle.answers.specs.Tests.{inRange}
 use Rattle.calls.specs.Product.{productOf}
 use Rattle.calls.specs.Transform.{transformOf}
 use Rattle.lists.proofs.TabLaws.{getD-tab, tab-cong}

@@ -16,8 +16,8 @@ use Rattle.bits.specs.Bits.{bit}
 use Rattle.bits.specs.Listing.{listed}
 use Rattle.small.specs.Encoding.{encodeBit, decodeBit}
 use Rattle.packing.specs.Packing.{packed, groups}
-use Rattle.answers.specs.Answers.{reply}
-use Rattle.answers.specs.Sets.{inRange}
+use Rattle.answers.specs.Replies.{reply}
+use Rattle.answers.specs.Tests.{inRange}
 use Rattle.calls.specs.Product.{productOf}
 use Rattle.calls.specs.Transform.{transformOf}
 

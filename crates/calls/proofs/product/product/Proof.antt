@@ -15,8 +15,9 @@ use Rattle.algebra.specs.Numbers.{residues}
 use Rattle.algebra.specs.Product.{product}
 use Rattle.answers.specs.declared.Parameters.{Parameters}
 use Rattle.answers.specs.declared.SetChoice.the-variants.{Known}
-use Rattle.answers.specs.Answers.{Reply, reply, leaves}
-use Rattle.answers.specs.Sets.{setOf, inRange}
+use Rattle.answers.specs.Replies.{Reply, reply, leaves}
+use Rattle.answers.specs.Sets.{setOf}
+use Rattle.answers.specs.Tests.{inRange}
 use Rattle.lists.proofs.FirstLaws.{length-through, length-one, through-clear}
 use Rattle.residue.proofs.LargeLaws.{residues-through}
 use Rattle.answers.proofs.Exits.{for-known, done, unknown-set, wrong-length, right-lengths, too-large, in-range}

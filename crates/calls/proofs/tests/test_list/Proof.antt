@@ -13,8 +13,9 @@ use Rattle.lists.specs.First.{firstThrough}
 use Rattle.residue.specs.Large.{tooLarge, firstLarge}
 use Rattle.answers.specs.declared.Parameters.{Parameters}
 use Rattle.answers.specs.declared.SetChoice.the-variants.{Known}
-use Rattle.answers.specs.Answers.{Reply, reply}
-use Rattle.answers.specs.Sets.{setOf, inRange}
+use Rattle.answers.specs.Replies.{Reply, reply}
+use Rattle.answers.specs.Sets.{setOf}
+use Rattle.answers.specs.Tests.{inRange}
 use Rattle.lists.proofs.FirstLaws.{length-one, through-one}
 use Rattle.residue.proofs.LargeLaws.{residues-through}
 use Rattle.answers.proofs.Exits.{in-order, clear, unknown-set, wrong-length, right-lengths, too-large}
