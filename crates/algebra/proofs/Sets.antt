@@ -51,7 +51,7 @@ module _ (h w : ℕ) (ρ : IsRoot h w) where
   pub log-below : (k : ℕ) → k < 6 * h → log * k < 3456
   log-below k l = omega (arith, turns, mul-lt-mul-of-pos-left l log-positive)
 
-  log-small : log ≤ 3456
+  pub log-small : log ≤ 3456
   log-small = omega (arith, turns, mul-le-mul-left {m = 1} {n = 6 * h} log (omega (arith, half-positive)))
 
   pub root-lt : w < q

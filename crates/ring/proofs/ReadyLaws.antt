@@ -10,7 +10,7 @@ use Rattle.residue.specs.Residues.{Residues}
 use Rattle.algebra.specs.Roots.{IsRoot}
 use Rattle.algebra.specs.Transform.{exponent}
 use Rattle.algebra.proofs.Exponent.{Parity, even, odd, parity, exponent-even, exponent-odd}
-use Rattle.algebra.proofs.Sets.{order-small, log-below}
+use Rattle.algebra.proofs.Sets.{order-small, log-below, log-small, root-positive}
 use Rattle.ring.specs.Ready.{Ready}
 
 module _ {h s : ℕ} {powers : List ℕ} (ready : Ready h s powers) where
@@ -21,6 +21,13 @@ module _ {h s : ℕ} {powers : List ℕ} (ready : Ready h s powers) where
   -- 6h ≤ 3456
   pub half-small : h ≤ 576
   half-small = omega (arith, order-small h (powq generator s) root)
+
+  -- w is not 0, and s is at most the order of 7
+  pub root-whole : 0 < powq generator s
+  root-whole = root-positive h (powq generator s) root
+
+  pub step-small : s ≤ 3456
+  step-small = log-small h (powq generator s) root
 
   -- w^k is 7^(s k), with no reduction of s k below w^(6h)
   pub root-log : (k : ℕ) → k < 6 * h → s * k < 3456

@@ -9,7 +9,7 @@ use Rattle.algebra.specs.Transform.{slotSum}
 use Rattle.algebra.proofs.Sum.{sum-zero}
 use Rattle.ring.proofs.Sums.{sum-low}
 use Rattle.ring.proofs.Logs.{log-one, log-add, log-low, opposite-power}
-use Rattle.ring.proofs.ReadyLaws.{root-log, own-length}
+use Rattle.ring.proofs.ReadyLaws.{root-log, own-length, root-whole, step-small}
 use Rattle.ring.proofs.SlotLaws.{slotTerm, slots-more}
 use Rattle.ring.proofs.reverse.slot_sum.Statement.{statement}
 use Rattle.ring.proofs.reverse.slot_sum.Tie as tie
@@ -82,7 +82,7 @@ loop-again c =
     let opposite = c .before .before .before .before .before .before .before .before .before .opposite in
     let log = opposite .result in
     let below = root-log (s .pre .0) (s .args .j) (omega arith) in
-    let root = opposite-power (s .args .step) (s .args .j) below (opposite .ensures) in (
+    let root = opposite-power (s .args .step) (s .args .j) (step-small (s .pre .0)) (root-whole (s .pre .0)) below (opposite .ensures) in (
       omega arith,
       l .inv .1,
       c .before .before .plus-pair .ensures .0 ∙ slots-more _ (s .args .a .now) (s .args .j) log root (l .t) (l .inv .2) (l .inv .3) (l .inv .4),
