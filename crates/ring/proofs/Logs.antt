@@ -1,6 +1,6 @@
 -- Exponents of 7 modulo 3456, as the loops advance them: d n stands for the n-th power of 7^d. And the exponent of an inverse.
 -- Assumes nothing.
-use mathlib.Core.Path.{_≡_, refl, sym, ap, _∙_}
+use mathlib.Core.Path.{_≡_, sym, ap, _∙_}
 use Prim.Native.Nat.{ℕ, zero, suc, _+_, _*_, _-_, _%_, _≤_, _<_}
 use native.Mathlib.Nat.{mod-add-mod, add-mod-mod, mul-zero, mul-comm, mul-add, mul-sub, mul-add-mod-self-left}
 use native.Mathlib.Omega.{arith}

@@ -1,6 +1,6 @@
 -- The laws of printed polynomials: the terms of a list and of its parts, the turn of the loop that prints them, and the length.
 -- Assumes nothing.
-use mathlib.Core.Path.{_≡_, refl, sym, ap, _∙_}
+use mathlib.Core.Path.{_≡_, sym, ap, _∙_}
 use mathlib.Core.Bool.{Bool, true, false, cond}
 use mathlib.Core.List.{List, [], _∷_, _++_, append-nil}
 use Prim.Native.Nat.{ℕ, suc, _+_, _*_, _≤_, _<_}
@@ -9,11 +9,11 @@ use native.Mathlib.Nat.{add-zero}
 use native.Mathlib.Numerals.{add-one}
 use native.Mathlib.Omega.{arith}
 use lib.Dec.{eqb}
-use lib.ListN.{length, getD, take, drop, length-append, take-append-drop, replicate}
+use lib.ListN.{length, getD, take, drop, length-append, take-append-drop}
 use lib.Seq.{length-take-le, take-suc}
 use borrow.Author.Tests.{eq-eqb, ne-eqb}
 use Rattle.lists.proofs.TabLaws.{cond-both}
-use Rattle.text.specs.Printing.{digits, width, decimal, printedTerm, printedTerms, joined, printedPolynomial}
+use Rattle.text.specs.Printing.{decimal, printedTerm, printedTerms, joined, printedPolynomial}
 use Rattle.text.specs.Places.{printedPlace}
 use Rattle.text.proofs.Each.{Each, none, more}
 use Rattle.text.proofs.DecimalLaws.{decimal-four}
@@ -137,8 +137,3 @@ pub length-polynomial : (l : List ℕ) → length l ≤ 10000 → ((k : ℕ) →
     → length (printedPolynomial l) ≤ 10 * length l
 unfolding printedPolynomial
 length-polynomial l h low = terms-length 0 l (omega arith) low
-
--- "product=0:3456,288:1"
-pub printed-example : printedPolynomial (3456 ∷ (replicate 287 0 ++ (1 ∷ []))) ≡ 48 ∷ 58 ∷ 51 ∷ 52 ∷ 53 ∷ 54 ∷ 44 ∷ 50 ∷ 56 ∷ 56 ∷ 58 ∷ 49 ∷ []
-unfolding printedPolynomial joined printedTerms printedTerm decimal width digits
-printed-example = refl

@@ -6,16 +6,11 @@ use Prim.Native.Nat.{ℕ, suc, _+_, _≤_, _<_}
 use native.Mathlib.Nat.{add-zero}
 use native.Mathlib.Numerals.{add-one}
 use native.Mathlib.Omega.{arith}
-use lib.ListN.{length, getD, take, drop, set, length-append, length-take, length-drop, take-append-drop}
+use lib.ListN.{length, getD, take, drop, set, length-append, take-append-drop}
 use lib.Seq.{length-take-le, take-at, drop-drop, drop-append-add, take-suc, set-split, set-at}
 use Rattle.text.specs.Write.{write, Writes}
 
 -- ---- the buffer
-
--- the buffer keeps its length
-pub length-write : (l : List ℕ) (at : ℕ) (s : List ℕ) → at + length s ≤ length l → length (write l at s) ≡ length l
-unfolding write
-length-write l at s h = simp (length-append, length-take, length-drop) (omega arith)
 
 -- no text changes nothing
 pub write-nothing : (l : List ℕ) (at : ℕ) → write l at [] ≡ l
