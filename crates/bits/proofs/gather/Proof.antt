@@ -6,7 +6,6 @@ use native.Mathlib.Nat.{add-comm, mul-le-mul-right, pow-le-pow-right}
 use native.Mathlib.Omega.{arith}
 use lib.ListN.{getD}
 use denote.Ref.{now}
-use borrow.Author.Needs.{needs}
 use Rattle.bits.specs.Bits.{number}
 use Rattle.bits.proofs.Digits.{number-zero, number-cong, number-more, number-lt}
 use Rattle.bits.proofs.Places.{row-next}
@@ -64,10 +63,10 @@ add-byte : tie.Need-add-byte Inv-loop μ-loop
 add-byte c = omega (arith, so-far (c .before), c .before .before .before .pre .1 .low (c .before .before .loop .from - c .before .before .before .args .stride))
 
 add-counter : tie.Need-add-counter Inv-loop μ-loop
-add-counter c = search needs
+add-counter c = omega arith
 
 loop-less : tie.Need-loop-less Inv-loop μ-loop
-loop-less c = search needs
+loop-less c = omega arith
 
 loop-again : tie.Need-loop-again Inv-loop μ-loop
 loop-again c =

@@ -4,7 +4,6 @@ use Prim.Native.Nat.{_+_, _*_, _<_}
 use native.Mathlib.Omega.{arith}
 use lib.ListN.{getD}
 use denote.Ref.{now}
-use borrow.Author.Needs.{needs}
 use Rattle.bits.proofs.Digits.{bitOf-half}
 use Rattle.bits.proofs.half_word_bit.Statement.{statement}
 use Rattle.bits.proofs.half_word_bit.Tie as tie
@@ -18,22 +17,22 @@ two-bytes c =
     (c .shared-slice-known2 .given (2 * u) .fits, c .shared-slice-known2 .given (2 * u + 1) .fits)
 
 mul-low : tie.Need-mul-low
-mul-low c = search needs
+mul-low c = omega arith
 
 shared-slice-read-low : tie.Need-shared-slice-read-low
-shared-slice-read-low c = search needs
+shared-slice-read-low c = omega arith
 
 cast-low : tie.Need-cast-low
 cast-low c = omega (arith, c .shared-slice-known .given (2 * c .before .args .u))
 
 mul-high : tie.Need-mul-high
-mul-high c = search needs
+mul-high c = omega arith
 
 add-high : tie.Need-add-high
-add-high c = search needs
+add-high c = omega arith
 
 shared-slice-read-high : tie.Need-shared-slice-read-high
-shared-slice-read-high c = search needs
+shared-slice-read-high c = omega arith
 
 cast-high : tie.Need-cast-high
 cast-high c = omega (arith, two-bytes c)
@@ -45,10 +44,10 @@ add-result : tie.Need-add-result
 add-result c = omega (arith, two-bytes c)
 
 shr-result : tie.Need-shr-result
-shr-result c = search needs
+shr-result c = omega arith
 
 cast-result : tie.Need-cast-result
-cast-result c = search needs
+cast-result c = omega arith
 
 returns : tie.Need-returns
 returns c =

@@ -5,7 +5,6 @@ use Prim.Native.Nat.{_+_, _-_, _/_, _≤_}
 use native.Mathlib.Omega.{arith}
 use lib.ListN.{length, take, drop}
 use denote.Ref.{now}
-use borrow.Author.Needs.{needs}
 use borrow.Rule.Slice.PartMut.{mid-len}
 use Rattle.bits.specs.Blocks.{blocks, blockwise}
 use Rattle.bits.specs.Listing.{listedBlock, listed}
@@ -27,7 +26,7 @@ loop-holds c =
     progress-start _ refl (ap (λ n. blockwise listedBlock (λ B. B / 8) (blocks n) (now (s .args .bytes))) (sym (s .pre .0)))
 
 sub-first-block : tie.Need-sub-first-block Inv-loop μ-loop
-sub-first-block c = search needs
+sub-first-block c = omega arith
 
 first-block-requires : tie.Need-first-block-requires Inv-loop μ-loop
 first-block-requires c κs =
@@ -85,7 +84,7 @@ loop-again c =
     progress-turn (u .loop .inv) B _ (at + B) _ (f .0) (f .2) (f .3) (omega (arith, f, u .loop .inv)) (omega arith) fits p (ap length p ∙ length-listedBlock B _ ∙ omega arith)
 
 same-length : tie.Need-same-length Inv-loop μ-loop
-same-length c = search needs
+same-length c = omega arith
 
 returns : tie.Need-returns Inv-loop μ-loop
 returns c = progress-end (c .before .loop .inv) (c .loop-test .left) (c .loop-test .left)

@@ -38,10 +38,10 @@ add-end : tie.Need-add-end Inv-loop μ-loop
 add-end c = omega (arith, room c)
 
 sub-list-row : tie.Need-sub-list-row Inv-loop μ-loop
-sub-list-row c = search needs
+sub-list-row c = omega arith
 
 part-list-row-start : tie.Need-part-list-row-start Inv-loop μ-loop
-part-list-row-start c = search needs
+part-list-row-start c = omega arith
 
 part-list-row-end : tie.Need-part-list-row-end Inv-loop μ-loop
 part-list-row-end c = omega (arith, room c, c .before .loop .inv .1 .long)
@@ -54,10 +54,10 @@ list-row-requires c κs =
     (omega (arith, mid-len (u .loop .at) e (u .loop .bits) (omega (arith, room (c .before), u .loop .inv .1 .long)), s .pre .0), c .before .loop-test .taken)
 
 add-l : tie.Need-add-l Inv-loop μ-loop
-add-l c = search needs
+add-l c = omega arith
 
 loop-less : tie.Need-loop-less Inv-loop μ-loop
-loop-less c = search needs
+loop-less c = omega arith
 
 loop-again : tie.Need-loop-again Inv-loop μ-loop
 loop-again c =
@@ -75,7 +75,7 @@ loop-again c =
     )
 
 same-length : tie.Need-same-length Inv-loop μ-loop
-same-length c = search needs
+same-length c = omega arith
 
 returns : tie.Need-returns Inv-loop μ-loop
 unfolding listedBlock

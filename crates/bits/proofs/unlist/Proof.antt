@@ -5,7 +5,6 @@ use Prim.Native.Nat.{_+_, _-_, _/_, _≤_}
 use native.Mathlib.Omega.{arith}
 use lib.ListN.{length, take, drop}
 use denote.Ref.{now}
-use borrow.Author.Needs.{needs}
 use borrow.Rule.Slice.PartMut.{mid-len}
 use Rattle.lists.proofs.BelowLaws.{below-take, below-drop}
 use Rattle.bits.specs.Listing.{unlistedBlock, unlisted}
@@ -25,7 +24,7 @@ unfolding unlisted
 loop-holds c = progress-start _ refl refl
 
 sub-first-block : tie.Need-sub-first-block Inv-loop μ-loop
-sub-first-block c = search needs
+sub-first-block c = omega arith
 
 first-block-requires : tie.Need-first-block-requires Inv-loop μ-loop
 first-block-requires c κs =
@@ -87,7 +86,7 @@ loop-again c =
     progress-turn (u .loop .inv) B _ ((at + B) / 8) _ (f .0) (f .2) (f .3) refl (omega arith) fits p (ap length p ∙ length-unlistedBlock B _ ∙ omega (arith, f, u .loop .inv))
 
 same-length : tie.Need-same-length Inv-loop μ-loop
-same-length c = search needs
+same-length c = omega arith
 
 returns : tie.Need-returns Inv-loop μ-loop
 returns c = progress-end (c .before .loop .inv) (c .loop-test .left) (omega (arith, c .loop-test .left, c .before .before .before .before .pre .0))

@@ -5,7 +5,6 @@ use Prim.Native.Nat.{ℕ, _+_, _-_, _*_, _/_, _≤_, _<_}
 use native.Mathlib.Omega.{arith}
 use lib.ListN.{length, getD, length-set}
 use denote.Ref.{now}
-use borrow.Author.Needs.{needs}
 use Rattle.lists.specs.Tab.{tab}
 use Rattle.lists.proofs.Fill.{Fill, fill-start, fill-turn, fill-as, fill-end}
 use Rattle.bits.specs.Bits.{number}
@@ -32,16 +31,16 @@ gather-requires : tie.Need-gather-requires Inv-loop μ-loop
 gather-requires c κs = let s = c .before .before .before .before in (omega (arith, c .loop-test .taken, s .pre .1), s .pre .2)
 
 mul-bytes : tie.Need-mul-bytes Inv-loop μ-loop
-mul-bytes c = search needs
+mul-bytes c = omega arith
 
 slice-write-bytes : tie.Need-slice-write-bytes Inv-loop μ-loop
 slice-write-bytes c = omega (arith, room (c .before), c .before .before .loop .inv .0)
 
 mul-gather : tie.Need-mul-gather Inv-loop μ-loop
-mul-gather c = search needs
+mul-gather c = omega arith
 
 add-gather : tie.Need-add-gather Inv-loop μ-loop
-add-gather c = search needs
+add-gather c = omega arith
 
 gather-requires-2 : tie.Need-gather-requires-2 Inv-loop μ-loop
 gather-requires-2 c κs =
@@ -49,19 +48,19 @@ gather-requires-2 c κs =
     (omega (arith, c .before .loop-test .taken, s .pre .1), s .pre .2)
 
 mul-bytes-2 : tie.Need-mul-bytes-2 Inv-loop μ-loop
-mul-bytes-2 c = search needs
+mul-bytes-2 c = omega arith
 
 add-bytes : tie.Need-add-bytes Inv-loop μ-loop
-add-bytes c = search needs
+add-bytes c = omega arith
 
 slice-write-bytes-2 : tie.Need-slice-write-bytes-2 Inv-loop μ-loop
 slice-write-bytes-2 c = omega (arith, room (c .before .before), c .before .before .before .loop .inv .0, length-set (c .before .before .before .loop .bytes) (2 * c .before .before .before .loop .u) (c .before .gather .result))
 
 add-u : tie.Need-add-u Inv-loop μ-loop
-add-u c = search needs
+add-u c = omega arith
 
 loop-less : tie.Need-loop-less Inv-loop μ-loop
-loop-less c = search needs
+loop-less c = omega arith
 
 loop-again : tie.Need-loop-again Inv-loop μ-loop
 loop-again c =
@@ -78,7 +77,7 @@ loop-again c =
     (fill-as high (2 * (k + 1)) (omega arith), omega (arith, c .before .before .loop-test .taken))
 
 same-length : tie.Need-same-length Inv-loop μ-loop
-same-length c = search needs
+same-length c = omega arith
 
 returns : tie.Need-returns Inv-loop μ-loop
 unfolding unlistedBlock

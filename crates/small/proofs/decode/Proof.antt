@@ -6,7 +6,6 @@ use Prim.Native.Nat.{ℕ, _%_, _<_}
 use native.Mathlib.Omega.{arith}
 use lib.ListN.{length}
 use denote.Ref.{now}
-use borrow.Author.Needs.{needs}
 use Rattle.lists.specs.Tab.{tab}
 use Rattle.lists.specs.Below.{Below}
 use Rattle.lists.proofs.TabLaws.{length-tab}
@@ -21,7 +20,7 @@ table-low : (bits : List ℕ) (n : ℕ) (f : ℕ → ℕ) → bits ≡ tab n f �
 table-low bits n f e h = subst (Below 2) (sym e) (below-tab (omega arith) n f h)
 
 list-halves-requires : tie.Need-list-halves-requires
-list-halves-requires c κs = search needs
+list-halves-requires c κs = omega arith
 
 decode-bits-requires : tie.Need-decode-bits-requires
 decode-bits-requires c κs =
@@ -43,13 +42,13 @@ unlist-requires c κs =
     (omega (arith, long, s .pre), omega (arith, long, s .pre), table-low _ _ _ (d .decode-bits .ensures) (λ i. decodeBit-lt _ _ _))
 
 same-length : tie.Need-same-length
-same-length c = search needs
+same-length c = omega arith
 
 same-length-2 : tie.Need-same-length-2
-same-length-2 c = search needs
+same-length-2 c = omega arith
 
 same-length-3 : tie.Need-same-length-3
-same-length-3 c = search needs
+same-length-3 c = omega arith
 
 returns : tie.Need-returns
 returns c =

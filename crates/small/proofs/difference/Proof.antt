@@ -4,7 +4,6 @@ use mathlib.Core.Path.{_≡_, sym, _∙_}
 use Prim.Native.Nat.{_%_}
 use native.Mathlib.Omega.{arith}
 use lib.IntN.{pos}
-use borrow.Author.Needs.{needs}
 use Rattle.residue.specs.Field.{q}
 use Rattle.residue.specs.Signed.{residueOf}
 use Rattle.residue.proofs.SignedLaws.{residueOf-sub}
@@ -12,7 +11,7 @@ use Rattle.small.proofs.difference.Statement.{statement}
 use Rattle.small.proofs.difference.Tie as tie
 
 sub-requires : tie.Need-sub-requires
-sub-requires c κs = search needs
+sub-requires c κs = omega arith
 
 returns : tie.Need-returns
 unfolding residueOf

@@ -5,7 +5,6 @@ use Prim.Native.Nat.{_%_}
 use native.Mathlib.Omega.{arith}
 use lib.ListN.{length}
 use denote.Ref.{now}
-use borrow.Author.Needs.{needs}
 use Rattle.lists.specs.Below.{Below}
 use Rattle.bits.proofs.ListingLaws.{length-listed, below-listed}
 use Rattle.small.proofs.Halves.{halves-long, halves-low, encoded-is}
@@ -13,10 +12,10 @@ use Rattle.small.proofs.encode.Statement.{statement}
 use Rattle.small.proofs.encode.Tie as tie
 
 list-requires : tie.Need-list-requires
-list-requires c κs = search needs
+list-requires c κs = omega arith
 
 list-halves-requires : tie.Need-list-halves-requires
-list-halves-requires c κs = search needs
+list-halves-requires c κs = omega arith
 
 encode-bits-requires : tie.Need-encode-bits-requires
 encode-bits-requires c κs =
@@ -33,13 +32,13 @@ encode-bits-requires c κs =
     )
 
 same-length : tie.Need-same-length
-same-length c = search needs
+same-length c = omega arith
 
 same-length-2 : tie.Need-same-length-2
-same-length-2 c = search needs
+same-length-2 c = omega arith
 
 same-length-3 : tie.Need-same-length-3
-same-length-3 c = search needs
+same-length-3 c = omega arith
 
 returns : tie.Need-returns
 returns c =

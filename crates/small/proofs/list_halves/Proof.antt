@@ -7,7 +7,6 @@ use native.Mathlib.Omega.{arith}
 use lib.ListN.{length, take, drop, length-take}
 use lib.Seq.{length-take-le}
 use denote.Ref.{now}
-use borrow.Author.Needs.{needs}
 use borrow.Rule.Slice.PartAt.{part-to-end}
 use Rattle.lists.proofs.Parts.{both-parts}
 use Rattle.bits.specs.Listing.{listed}
@@ -29,7 +28,7 @@ slice-aggregate-list : tie.Need-slice-aggregate-list
 slice-aggregate-list c = sym (length-take-le _ _ (omega arith))
 
 slice-relend-prefix-list : tie.Need-slice-relend-prefix-list
-slice-relend-prefix-list c = search needs
+slice-relend-prefix-list c = omega arith
 
 slice-aggregate-list-2 : tie.Need-slice-aggregate-list-2
 slice-aggregate-list-2 c = sym (length-take-le _ _ (omega arith))
@@ -40,28 +39,28 @@ list-requires c κs =
     simp length-take (omega (arith, s .pre))
 
 sub-list : tie.Need-sub-list
-sub-list c = search needs
+sub-list c = omega arith
 
 part-list-start : tie.Need-part-list-start
-part-list-start c = search needs
+part-list-start c = omega arith
 
 part-list-end : tie.Need-part-list-end
-part-list-end c = search needs
+part-list-end c = omega arith
 
 sub-list-2 : tie.Need-sub-list-2
-sub-list-2 c = search needs
+sub-list-2 c = omega arith
 
 part-list-start-2 : tie.Need-part-list-start-2
-part-list-start-2 c = search needs
+part-list-start-2 c = omega arith
 
 part-list-end-2 : tie.Need-part-list-end-2
-part-list-end-2 c = search needs
+part-list-end-2 c = omega arith
 
 list-requires-2 : tie.Need-list-requires-2
-list-requires-2 c κs = search needs
+list-requires-2 c κs = omega arith
 
 same-length : tie.Need-same-length
-same-length c = search needs
+same-length c = omega arith
 
 returns : tie.Need-returns
 returns c =

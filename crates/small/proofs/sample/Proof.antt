@@ -4,13 +4,12 @@ use mathlib.Core.Path.{_∙_}
 use native.Mathlib.Omega.{arith}
 use lib.ListN.{length}
 use denote.Ref.{now}
-use borrow.Author.Needs.{needs}
 use Rattle.small.proofs.Halves.{halves-long, halves-low, sampled-is}
 use Rattle.small.proofs.sample.Statement.{statement}
 use Rattle.small.proofs.sample.Tie as tie
 
 list-halves-requires : tie.Need-list-halves-requires
-list-halves-requires c κs = search needs
+list-halves-requires c κs = omega arith
 
 sample-bits-requires : tie.Need-sample-bits-requires
 sample-bits-requires c κs =
@@ -21,10 +20,10 @@ sample-bits-requires c κs =
     (halves-long block words _ (h .list-halves .ensures) ∙ omega (arith, s .pre), halves-low block words _ (h .list-halves .ensures))
 
 same-length : tie.Need-same-length
-same-length c = search needs
+same-length c = omega arith
 
 same-length-2 : tie.Need-same-length-2
-same-length-2 c = search needs
+same-length-2 c = omega arith
 
 returns : tie.Need-returns
 returns c =

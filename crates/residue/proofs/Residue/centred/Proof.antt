@@ -3,7 +3,6 @@
 use mathlib.Core.Path.{sym, _∙_}
 use Prim.Native.Nat.{_-_}
 use native.Mathlib.Omega.{arith}
-use borrow.Author.Needs.{needs}
 use borrow.Author.Tests.{le-leb, lt-leb}
 use Rattle.residue.specs.Field.{q}
 use Rattle.residue.specs.Signed.{centred}
@@ -12,13 +11,13 @@ use Rattle.residue.proofs.Residue.centred.Statement.{statement}
 use Rattle.residue.proofs.Residue.centred.Tie as tie
 
 cast-result : tie.Need-cast-result
-cast-result c = search needs
+cast-result c = omega arith
 
 sub-result : tie.Need-sub-result
-sub-result c = search needs
+sub-result c = omega arith
 
 cast-result-2 : tie.Need-cast-result-2
-cast-result-2 c = search needs
+cast-result-2 c = omega arith
 
 sub-result-2 : tie.Need-sub-result-2
 sub-result-2 c = negated-fits (q - c .before .args .self .0) (omega arith)

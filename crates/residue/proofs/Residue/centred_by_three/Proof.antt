@@ -11,7 +11,7 @@ centred-requires : tie.Need-centred-requires
 centred-requires c κs = search needs
 
 by-three-requires : tie.Need-by-three-requires
-by-three-requires c κs = search needs
+by-three-requires c κs = tt
 
 returns : tie.Need-returns
 unfolding centredByThree

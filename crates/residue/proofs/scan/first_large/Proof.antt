@@ -8,13 +8,13 @@ use Rattle.residue.proofs.scan.first_large.Statement.{statement}
 use Rattle.residue.proofs.scan.first_large.Tie as tie
 
 largest-requires : tie.Need-largest-requires
-largest-requires c κs = search needs
+largest-requires c κs = tt
 
 too-large-requires : tie.Need-too-large-requires
-too-large-requires c κs = search needs
+too-large-requires c κs = tt
 
 search-large-requires : tie.Need-search-large-requires
-search-large-requires c κs = search needs
+search-large-requires c κs = tt
 
 returns : tie.Need-returns
 returns c = search needs

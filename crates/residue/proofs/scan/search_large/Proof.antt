@@ -5,7 +5,6 @@ use Prim.Native.Nat.{_+_, _-_, _≤_}
 use native.Mathlib.Omega.{arith}
 use lib.ListN.{length, drop, drop-of-length-le}
 use denote.Ref.{now}
-use borrow.Author.Needs.{needs}
 use Rattle.lists.proofs.FirstLaws.{first-more, first-here, first-none}
 use Rattle.residue.specs.Large.{tooLarge, firstLarge}
 use Rattle.residue.proofs.scan.search_large.Statement.{statement}
@@ -18,16 +17,16 @@ abbrev μ-loop : tie.MeasureT-loop
 μ-loop list i₀ i = length list - i
 
 loop-holds : tie.Need-loop-holds Inv-loop μ-loop
-loop-holds c = search needs
+loop-holds c = omega arith
 
 mul-too-large : tie.Need-mul-too-large Inv-loop μ-loop
-mul-too-large c = search needs
+mul-too-large c = omega arith
 
 shared-slice-read-too-large : tie.Need-shared-slice-read-too-large Inv-loop μ-loop
-shared-slice-read-too-large c = search needs
+shared-slice-read-too-large c = omega arith
 
 too-large-requires : tie.Need-too-large-requires Inv-loop μ-loop
-too-large-requires c κs = search needs
+too-large-requires c κs = tt
 
 returns : tie.Need-returns Inv-loop μ-loop
 unfolding firstLarge
@@ -37,10 +36,10 @@ returns c =
     omega (arith, first-here tooLarge (now (l .before .before .args .list)) (l .loop .i) (c .before .before .before .loop-test .taken) large)
 
 add-i : tie.Need-add-i Inv-loop μ-loop
-add-i c = search needs
+add-i c = omega arith
 
 loop-less : tie.Need-loop-less Inv-loop μ-loop
-loop-less c = search needs
+loop-less c = omega arith
 
 loop-again : tie.Need-loop-again Inv-loop μ-loop
 unfolding firstLarge

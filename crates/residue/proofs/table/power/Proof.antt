@@ -3,7 +3,6 @@
 use mathlib.Core.Path.{_≡_}
 use native.Mathlib.Omega.{arith}
 use lib.ListN.{getD}
-use borrow.Author.Needs.{needs}
 use Rattle.residue.specs.Field.{generator, powq}
 use Rattle.residue.proofs.FieldLaws.{powq-lt}
 use Rattle.residue.proofs.TableLaws.{powers-at}
@@ -11,10 +10,10 @@ use Rattle.residue.proofs.table.power.Statement.{statement}
 use Rattle.residue.proofs.table.power.Tie as tie
 
 mul-t3 : tie.Need-mul-t3
-mul-t3 c = search needs
+mul-t3 c = omega arith
 
 element-copy-out-t6 : tie.Need-element-copy-out-t6
-element-copy-out-t6 c = search needs
+element-copy-out-t6 c = omega arith
 
 returns : tie.Need-returns
 returns c =

@@ -2,14 +2,13 @@
 -- Assumes nothing.
 use mathlib.Core.Path.{_≡_, sym, ap, _∙_}
 use native.Mathlib.Omega.{arith}
-use borrow.Author.Needs.{needs}
 use Rattle.residue.specs.Signed.{residueOf}
 use Rattle.small.specs.Marks.{ofMark}
 use Rattle.small.proofs.marks.residue_of.Statement.{statement}
 use Rattle.small.proofs.marks.residue_of.Tie as tie
 
 neg-requires : tie.Need-neg-requires
-neg-requires c κs = search needs
+neg-requires c κs = omega arith
 
 returns : tie.Need-returns
 unfolding residueOf ofMark
