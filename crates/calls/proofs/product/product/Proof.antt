@@ -11,6 +11,7 @@ use denote.Ref.{now}
 use borrow.Author.Tests.{not-true, not-false}
 use Rattle.lists.specs.First.{firstThrough}
 use Rattle.residue.specs.Large.{tooLarge}
+use Rattle.residue.specs.Residues.{Residues}
 use Rattle.algebra.specs.Numbers.{residues}
 use Rattle.algebra.specs.Product.{product}
 use Rattle.answers.specs.declared.Parameters.{Parameters}
@@ -118,13 +119,15 @@ returns-2 c =
 product-requires : tie.Need-product-requires
 product-requires c κs =
     let e = c .before in
-    let s = start (parameters (measured e)) in
-    let w = set (parameters (measured e)) .whole in
-    let l = lengths (measured e) in (
-      residues-through (now (s .args .a)) (now (s .args .b) ∷ []) (l .0 ∙ w) (clear e),
-      residues-through (now (s .args .b)) [] (l .1 ∙ w) (through-clear tooLarge (now (s .args .a)) (now (s .args .b) ∷ []) (clear e) .1),
-      l .2 ∙ w,
-    )
+    let k = parameters (measured e) in
+    let s = start k in
+    let l = lengths (measured e) in
+    let n = chosen k .half + chosen k .half in
+    let whole = set k .whole in
+    let first : Residues n (now (s .args .a)) = residues-through (now (s .args .a)) (now (s .args .b) ∷ []) (l .0 ∙ whole) (clear e) in
+    let second : Residues n (now (s .args .b)) =
+    residues-through (now (s .args .b)) [] (l .1 ∙ whole) (through-clear tooLarge (now (s .args .a)) (now (s .args .b) ∷ []) (clear e) .1) in
+    (search (first, second), search (first, second), l .2 ∙ whole)
 
 returns-3 : tie.Need-returns-3
 unfolding Product productReply leaves
