@@ -4,9 +4,7 @@ use answers::SetChoice;
 ghost use mathlib.Core.Bool.{_&&_};
 ghost use mathlib.Core.List.{[], _∷_};
 ghost use mathlib.Core.Path.{_≡_};
-ghost use Prim.Native.Nat.{_+_, _≤_};
 ghost use lib.Dec.{eqb};
-ghost use lib.ListN.{length};
 ghost use Rattle.lists.specs.First.{firstThrough};
 ghost use Rattle.residue.specs.Large.{tooLarge};
 ghost use Rattle.calls.specs.Product.{Product};
@@ -20,7 +18,6 @@ fn lengths(n: usize, a: usize, b: usize, room: usize) -> bool
 
 // The place of the first number above 3456, counted through both lists; the length of both where there is none.
 fn first_large(a: &[u16], b: &[u16]) -> usize
-    requires { ⌜ length (now a) + length (now b) ≤ 2304 ⌝ }
     ensures { λ r. ⌜ r ≡ firstThrough tooLarge (now (a .entry) ∷ now (b .entry) ∷ []) ⌝ }
 {
     let at = residue::scan::first_large(a);

@@ -2,7 +2,6 @@
 use answers::Answer;
 use answers::Parameters;
 use answers::SetChoice;
-ghost use lib.ListN.{length};
 ghost use Rattle.calls.specs.Tests.{Tells};
 
 // The set's parameters where no refusal applies.

@@ -19,7 +19,7 @@ add-result : tie.Need-add-result
 unfolding firstLarge
 add-result c =
     let s = c .before .before .before .before .before in
-    omega (arith, s .pre, c .first-large2 .ensures, first-within tooLarge (now (s .args .b)), c .before .before .first-large .ensures, first-within tooLarge (now (s .args .a)))
+    omega (arith, c .first-large2 .ensures, first-within tooLarge (now (s .args .b)), c .before .before .first-large .ensures, first-within tooLarge (now (s .args .a)))
 
 returns : tie.Need-returns
 unfolding firstLarge

@@ -101,8 +101,7 @@ returns c =
     (sym (c .before .lengths .ensures) ∙ not-true _ (c .if1 .taken)) refl
 
 first-large-requires : tie.Need-first-large-requires
-first-large-requires c κs =
-    omega (arith, lengths c, set (parameters c) .small)
+first-large-requires c κs = tt
 
 add-if2 : tie.Need-add-if2
 add-if2 c = omega (arith, set (c .before .before .before .before .before) .small)
