@@ -1,4 +1,4 @@
-// The reading of input lines: every function takes the very bytes that it judges, and asks nothing of them.
+// The reading of input lines: every public function takes the very bytes that it judges, and asks nothing of them.
 use crate::Number;
 use crate::Term;
 use answers::both;
