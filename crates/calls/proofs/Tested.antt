@@ -7,14 +7,14 @@ use Prim.Native.Nat.{ℕ, _+_}
 use lib.ListN.{length}
 use borrow.Author.Tests.{ne-eqb}
 use Rattle.residue.specs.Field.{one, generator}
-use Rattle.residue.specs.Powers.{Powers}
 use Rattle.residue.specs.Residues.{Residues}
+use Rattle.powers.specs.Powers.{Powers}
 use Rattle.answers.specs.declared.Answer.{Answer}
 use Rattle.answers.specs.declared.Answer.the-variants.{Done}
 use Rattle.answers.specs.declared.Parameters.{Parameters}
 use Rattle.answers.specs.Replies.{leaves, Outcome}
 use Rattle.answers.specs.Sets.{setOf, forSet}
-use Rattle.ring.specs.Ready.{Ready}
+use Rattle.slots.specs.Ready.{Ready}
 use Rattle.answers.proofs.Exits as X
 use Rattle.answers.proofs.SetLaws.{IsSet, known-set}
 use Rattle.calls.specs.declared.tests.Tested.the-variants.{Refused, Ready as Passed}

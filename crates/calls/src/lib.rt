@@ -1,5 +1,5 @@
 // The public calls, one file each: the tests in the order of the numbers, then the work. None of them asks anything of its caller.
 pub mod product;
 pub mod reverse;
-pub mod tests;
+mod tests;
 pub mod transform;

@@ -41,7 +41,7 @@ pub fn product(set: usize, a: &[u16], b: &[u16], out: &mut [u16]) -> Answer
             if at < s.n + s.n {
                 return Answer::TooLarge(at);
             }
-            ring::product::product(s.half, a, b, out);
+            ring::product(s.half, a, b, out);
             Answer::Done
         }
     }

@@ -9,8 +9,8 @@ pub fn reverse(set: usize, a: &[u16], out: &mut [u16]) -> Answer
     match crate::tests::test_list(set, a, out.len()) {
         Tested::Refused(answer) => answer,
         Tested::Ready(s) => {
-            let powers = residue::table::powers();
-            ring::reverse::reverse(s.half, s.step, a, &powers, out);
+            let powers = powers::powers();
+            slots::reverse::reverse(s.half, s.step, a, &powers, out);
             Answer::Done
         }
     }

@@ -10,7 +10,7 @@ pub enum Tested {
     Refused(Answer),
 }
 
-pub fn test_list(set: usize, a: &[u16], room: usize) -> Tested
+pub(crate) fn test_list(set: usize, a: &[u16], room: usize) -> Tested
     ensures { λ r. ⌜ Tells set (now (a .entry)) room r ⌝ }
 {
     match answers::set_of(set) {

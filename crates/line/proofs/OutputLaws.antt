@@ -7,9 +7,9 @@ use native.Mathlib.Omega.{arith}
 use lib.Dec.{lit<}
 use lib.ListN.{length, getD, length-append}
 use Rattle.text.specs.Lines.{lf}
-use Rattle.text.specs.Printing.{decimal, printedPolynomial}
-use Rattle.text.proofs.DecimalLaws.{decimal-length}
-use Rattle.text.proofs.PrintingLaws.{length-polynomial}
+use Rattle.print.specs.Printing.{decimal, printedPolynomial}
+use Rattle.print.proofs.DecimalLaws.{decimal-length}
+use Rattle.print.proofs.PrintingLaws.{length-polynomial}
 use Rattle.line.specs.Names.{setName, codeName, placeName, productName}
 use Rattle.line.specs.Output.{lineOf, answerLines, productLines}
 

@@ -9,7 +9,7 @@ use lib.ListN.{length}
 use Rattle.answers.specs.Sets.{setOf, forSet}
 use Rattle.calls.specs.Product.{productOf}
 use Rattle.text.specs.Lines.{lf, past}
-use Rattle.text.specs.Write.{Writes}
+use Rattle.print.specs.Write.{Writes}
 use Rattle.line.specs.Input.{setIn, polynomialIn, forNumber}
 use Rattle.line.specs.Names.{aName, bName}
 use Rattle.line.specs.Output.{answerLines, productLines}

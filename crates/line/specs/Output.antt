@@ -3,7 +3,7 @@
 use mathlib.Core.List.{List, [], _∷_, _++_}
 use Prim.Native.Nat.{ℕ}
 use Rattle.text.specs.Lines.{lf}
-use Rattle.text.specs.Printing.{decimal, printedPolynomial}
+use Rattle.print.specs.Printing.{decimal, printedPolynomial}
 use Rattle.line.specs.Names.{setName, codeName, placeName, productName}
 
 unfoldable pub lineOf : List ℕ → List ℕ → List ℕ

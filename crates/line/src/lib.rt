@@ -12,7 +12,7 @@ ghost use mathlib.Core.Path.{_≡_};
 ghost use Prim.Native.Nat.{_<_, _≤_};
 ghost use lib.ListN.{length};
 ghost use Rattle.answers.specs.Answers.{numberOf, placeOf};
-ghost use Rattle.text.specs.Write.{Writes};
+ghost use Rattle.print.specs.Write.{Writes};
 ghost use Rattle.line.specs.Chosen.{Chosen};
 ghost use Rattle.line.specs.Line.{printed, Line};
 ghost use Rattle.line.specs.Output.{productLines};

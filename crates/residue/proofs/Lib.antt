@@ -3,7 +3,7 @@ pub mod FieldLaws
 pub mod PowerLaws
 pub mod Inverse
 pub mod Order
-pub mod TableLaws
 pub mod SignedLaws
 pub mod Machine
 pub mod LargeLaws
+pub mod ResiduesLaws

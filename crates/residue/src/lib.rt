@@ -5,7 +5,6 @@ ghost use Rattle.residue.specs.Field.{q, addq, subq, negq, mulq, powq, i
 ghost use Rattle.residue.specs.Signed.{centred, byThree, centredByThree};
 
 pub mod scan;
-pub mod table;
 
 // A residue modulo 3457, by the number below 3457 that stands for it.
 pub struct Residue(pub u16);

@@ -8,9 +8,9 @@ use native.Mathlib.Numerals.{add-one}
 use native.Mathlib.Omega.{arith}
 use lib.ListN.{length, getD, List·getD-eq-default}
 use Rattle.residue.specs.Field.{addq, subq, mulq}
-use Rattle.residue.proofs.FieldLaws.{mulq-comm, mulq-zero}
 use Rattle.algebra.specs.Numbers.{residues, sum}
 use Rattle.algebra.specs.Product.{coefficient, schoolbook, foldLow, foldHigh, fold}
+use Rattle.residue.proofs.FieldLaws.{mulq-comm, mulq-zero}
 use Rattle.algebra.proofs.Value.{fold-low, fold-high}
 use Rattle.ring.proofs.Sums.{sum-nothing, sum-stops}
 

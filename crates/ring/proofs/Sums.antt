@@ -7,8 +7,8 @@ use native.Mathlib.Numerals.{add-one}
 use native.Mathlib.Omega.{arith}
 use lib.Dec.{lit<}
 use Rattle.residue.specs.Field.{q, addq}
-use Rattle.residue.proofs.FieldLaws.{addq-zero}
 use Rattle.algebra.specs.Numbers.{residues, sum}
+use Rattle.residue.proofs.FieldLaws.{addq-zero}
 use Rattle.algebra.proofs.Sum.{sum-zero, sum-suc}
 use Rattle.algebra.proofs.Lists.{sum-lt}
 

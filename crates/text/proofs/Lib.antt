@@ -2,11 +2,3 @@ pub mod NumeralLaws
 pub mod LineLaws
 pub mod TermLaws
 pub mod PolynomialLaws
-pub mod Each
-pub mod WriteLaws
-pub mod DecimalLaws
-pub mod DigitLoop
-pub mod JoinedLaws
-pub mod PrintingLaws
-pub mod BackLaws
-pub mod RoundTrip

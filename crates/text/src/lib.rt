@@ -1,7 +1,6 @@
 // The lines of ringline, what it reads and what it prints, as functions on bytes. The enums stand here, since a module
 // can't have a function `number` and an enum `Number`.
 pub mod read;
-pub mod write;
 
 // What a piece of text is, as a number.
 pub enum Number {

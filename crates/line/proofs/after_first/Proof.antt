@@ -14,7 +14,7 @@ use Rattle.calls.specs.Product.{productOf}
 use Rattle.text.specs.Lines.{lf, past}
 use Rattle.text.specs.Polynomials.{Reads}
 use Rattle.text.proofs.PolynomialLaws.{reads-good, reads-bad}
-use Rattle.text.proofs.WriteLaws.{writes-as}
+use Rattle.print.proofs.WriteLaws.{writes-as}
 use Rattle.line.specs.Input.{polynomialIn}
 use Rattle.line.specs.Names.{aName, bName}
 use Rattle.line.specs.Output.{productLines}

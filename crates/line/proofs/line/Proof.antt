@@ -11,9 +11,9 @@ use borrow.Author.Needs.{needs}
 use Rattle.answers.specs.declared.Parameters.{Parameters}
 use Rattle.answers.specs.declared.SetChoice.the-variants.{Known}
 use Rattle.answers.specs.Sets.{setOf}
-use Rattle.answers.proofs.SetLaws.{IsSet, known-set}
 use Rattle.text.specs.declared.Number.the-variants.{Is}
-use Rattle.text.proofs.WriteLaws.{writes-as}
+use Rattle.answers.proofs.SetLaws.{IsSet, known-set}
+use Rattle.print.proofs.WriteLaws.{writes-as}
 use Rattle.line.specs.Input.{setIn}
 use Rattle.line.specs.Line.{Line}
 use Rattle.line.proofs.OutputLaws.{answer-short}

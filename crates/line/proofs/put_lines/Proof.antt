@@ -5,7 +5,7 @@ use native.Mathlib.Omega.{arith}
 use lib.ListN.{length}
 use denote.Ref.{now}
 use Rattle.answers.specs.Answers.{numberOf, placeOf}
-use Rattle.text.proofs.WriteLaws.{then-writes, writes-as}
+use Rattle.print.proofs.WriteLaws.{then-writes, writes-as}
 use Rattle.line.specs.Output.{answerLines, productLines}
 use Rattle.line.proofs.OutputLaws.{length-product}
 use Rattle.line.proofs.put_lines.Statement.{statement}

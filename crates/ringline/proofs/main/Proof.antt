@@ -7,7 +7,7 @@ use lib.ListN.{length}
 use lib.Seq.{length-take-le}
 use borrow.Author.Needs.{needs}
 use Rattle.line.specs.Line.{Line}
-use Rattle.text.proofs.WriteLaws.{writes-within}
+use Rattle.print.proofs.WriteLaws.{writes-within}
 use Rattle.ringline.proofs.main.Statement.{statement}
 use Rattle.ringline.proofs.main.Tie as tie
 

@@ -5,9 +5,9 @@ use mathlib.Core.Path.{refl, ap, ap₂}
 use native.Mathlib.Omega.{arith}
 use lib.ListN.{length}
 use Rattle.answers.specs.Answers.{numberOf, placeOf}
-use Rattle.text.specs.Printing.{decimal}
+use Rattle.print.specs.Printing.{decimal}
 use Rattle.answers.proofs.AnswerLaws.{number-small}
-use Rattle.text.proofs.WriteLaws.{then-writes, writes-as}
+use Rattle.print.proofs.WriteLaws.{then-writes, writes-as}
 use Rattle.line.specs.Names.{codeName, placeName}
 use Rattle.line.specs.Output.{lineOf, answerLines}
 use Rattle.line.proofs.OutputLaws.{length-answer}

@@ -2,8 +2,8 @@
 -- Assumes nothing.
 use native.Mathlib.Omega.{arith}
 use denote.Ref.{now}
-use Rattle.text.specs.Printing.{decimal}
-use Rattle.text.proofs.WriteLaws.{then-writes}
+use Rattle.print.specs.Printing.{decimal}
+use Rattle.print.proofs.WriteLaws.{then-writes}
 use Rattle.line.specs.Output.{lineOf}
 use Rattle.line.proofs.OutputLaws.{length-line}
 use Rattle.line.proofs.output.put_number.Statement.{statement}

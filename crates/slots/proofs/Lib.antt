@@ -1,0 +1,3 @@
+pub mod Logs
+pub mod ReadyLaws
+pub mod SlotLaws
