@@ -8,7 +8,7 @@ failed=0
 
 # expect NAME: standard input gives tests/ringline/NAME.out
 expect() {
-    if target/bin/ringline | cmp -s - "tests/ringline/$1.out"; then
+    if tests/program ringline | cmp -s - "tests/ringline/$1.out"; then
         passed=$((passed + 1))
     else
         echo "$1: printed something else than tests/ringline/$1.out"

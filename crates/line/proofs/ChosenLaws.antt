@@ -11,14 +11,14 @@ use Rattle.algebra.specs.Product.{product}
 use Rattle.answers.specs.declared.Answer.{Answer}
 use Rattle.answers.specs.Answers.{numberOf, placeOf}
 use Rattle.calls.specs.Product.{productOf, Product}
+use Rattle.lines.specs.Output.{productLines}
 use Rattle.algebra.proofs.Lists.{product-residues}
 use Rattle.answers.proofs.Exits.{for-known}
 use Rattle.answers.proofs.SetLaws.{IsSet, known-set}
 use Rattle.calls.proofs.Products.{product-done}
+use Rattle.lines.proofs.InputLaws.{set-small}
+use Rattle.lines.proofs.OutputLaws.{product-short}
 use Rattle.line.specs.Chosen.{Chosen}
-use Rattle.line.specs.Output.{productLines}
-use Rattle.line.proofs.InputLaws.{set-small}
-use Rattle.line.proofs.OutputLaws.{product-short}
 
 module _ {input : List ℕ} {set n : ℕ} (chosen : Chosen input set n) where
   is-set : IsSet set (chosen .parameters)

@@ -1,4 +1,2 @@
-pub mod InputLaws
-pub mod OutputLaws
 pub mod Printed
 pub mod ChosenLaws

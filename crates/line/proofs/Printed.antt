@@ -12,11 +12,11 @@ use Rattle.answers.specs.Sets.{setOf, forSet}
 use Rattle.calls.specs.Product.{productOf}
 use Rattle.text.specs.declared.Number.the-variants.{Is, NotNumber}
 use Rattle.text.specs.Lines.{lf, past}
+use Rattle.lines.specs.Input.{setIn, polynomialIn, forNumber}
+use Rattle.lines.specs.Names.{aName, bName}
+use Rattle.lines.specs.Output.{answerLines, productLines}
 use Rattle.line.specs.Chosen.{Chosen}
-use Rattle.line.specs.Input.{setIn, polynomialIn, forNumber}
 use Rattle.line.specs.Line.{printed}
-use Rattle.line.specs.Names.{aName, bName}
-use Rattle.line.specs.Output.{answerLines, productLines}
 
 module _ (input : List ℕ) where
   -- the input is too long

@@ -8,7 +8,7 @@ use Rattle.answers.specs.declared.Parameters.{Parameters}
 use Rattle.answers.specs.declared.SetChoice.the-variants.{Known}
 use Rattle.answers.specs.Sets.{setOf}
 use Rattle.text.specs.declared.Number.the-variants.{Is}
-use Rattle.line.specs.Input.{setIn}
+use Rattle.lines.specs.Input.{setIn}
 
 -- the input is not too long, its first line names a set, and the set is known and has n numbers
 pub record Chosen (input : List ℕ) (set n : ℕ) : Type 0 where

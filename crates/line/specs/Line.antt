@@ -10,9 +10,9 @@ use Rattle.answers.specs.Sets.{setOf, forSet}
 use Rattle.calls.specs.Product.{productOf}
 use Rattle.text.specs.Lines.{lf, past}
 use Rattle.print.specs.Write.{Writes}
-use Rattle.line.specs.Input.{setIn, polynomialIn, forNumber}
-use Rattle.line.specs.Names.{aName, bName}
-use Rattle.line.specs.Output.{answerLines, productLines}
+use Rattle.lines.specs.Input.{setIn, polynomialIn, forNumber}
+use Rattle.lines.specs.Names.{aName, bName}
+use Rattle.lines.specs.Output.{answerLines, productLines}
 
 unfoldable pub printed : List ℕ → List ℕ
 printed input =

@@ -1,11 +1,11 @@
 // ringline as one function from the input's bytes to the printed bytes.
 use answers::Answer;
 use answers::SetChoice;
-use input::polynomial_in;
-use input::set_in;
-use output::put_answer;
-use output::put_number;
-use output::put_product;
+use lines::input::polynomial_in;
+use lines::input::set_in;
+use lines::output::put_answer;
+use lines::output::put_number;
+use lines::output::put_product;
 use text::Number;
 use text::read::past;
 ghost use mathlib.Core.Path.{_≡_};
@@ -13,12 +13,9 @@ ghost use Prim.Native.Nat.{_<_, _≤_};
 ghost use lib.ListN.{length};
 ghost use Rattle.answers.specs.Answers.{numberOf, placeOf};
 ghost use Rattle.print.specs.Write.{Writes};
+ghost use Rattle.lines.specs.Output.{productLines};
 ghost use Rattle.line.specs.Chosen.{Chosen};
 ghost use Rattle.line.specs.Line.{printed, Line};
-ghost use Rattle.line.specs.Output.{productLines};
-
-pub mod input;
-pub mod output;
 
 // Room for the numbers of the larger set.
 fn numbers() -> [u16; 1152]

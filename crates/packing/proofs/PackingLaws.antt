@@ -7,10 +7,10 @@ use native.Mathlib.Omega.{arith}
 use lib.ListN.{length, getD}
 use Rattle.lists.specs.Tab.{tab}
 use Rattle.lists.specs.Below.{Below}
-use Rattle.lists.proofs.Flat.{length-flat, flat-at, flat-of}
-use Rattle.lists.proofs.TabLaws.{tab-cong}
 use Rattle.residue.specs.Large.{firstLarge}
 use Rattle.residue.specs.Residues.{Residues}
+use Rattle.lists.proofs.Flat.{length-flat, flat-at, flat-of}
+use Rattle.lists.proofs.TabLaws.{tab-cong}
 use Rattle.residue.proofs.LargeLaws.{residues-of, none-large}
 use Rattle.packing.specs.Packing.{threeBytes, packed, twoGroups, groups}
 

@@ -6,8 +6,8 @@ use native.Mathlib.Omega.{arith}
 use lib.Bits.{bitXor}
 use lib.Dec.{eqb}
 use lib.IntN.{ℤ, pos, natAbs, _-ℤ_}
+use Rattle.marks.specs.Marks.{Small, ofMark}
 use Rattle.lists.proofs.TabLaws.{cond-both}
-use Rattle.small.specs.Marks.{Small, ofMark}
 use Rattle.small.specs.Encoding.{xor, encodeBit, decodeBit}
 
 -- what holds at 0 and at 1 holds of each bit

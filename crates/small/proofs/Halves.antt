@@ -9,12 +9,12 @@ use lib.ListN.{length, getD, length-append, length-drop, length-map, List·getD-
 use lib.Seq.{length-take-le, getD-append-add}
 use Rattle.lists.specs.Tab.{tab}
 use Rattle.lists.specs.Below.{Below}
-use Rattle.lists.proofs.TabLaws.{tab-cong, map-tab}
-use Rattle.lists.proofs.BelowLaws.{below-append}
 use Rattle.residue.specs.Signed.{residueOf}
 use Rattle.bits.specs.Listing.{listed, unlisted}
+use Rattle.marks.specs.Marks.{ofMark}
+use Rattle.lists.proofs.TabLaws.{tab-cong, map-tab}
+use Rattle.lists.proofs.BelowLaws.{below-append}
 use Rattle.bits.proofs.ListingLaws.{length-listed, below-listed}
-use Rattle.small.specs.Marks.{ofMark}
 use Rattle.small.specs.Sampling.{firstHalf, secondHalf, firstBit, secondBit, sampled}
 use Rattle.small.specs.Encoding.{encodeBit, decodeBit, encoded, decoded}
 

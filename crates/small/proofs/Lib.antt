@@ -1,4 +1,3 @@
 pub mod BitLaws
-pub mod MarkLaws
 pub mod SmallLaws
 pub mod Halves

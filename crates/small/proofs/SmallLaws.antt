@@ -8,10 +8,10 @@ use lib.IntN.{pos}
 use lib.ListN.{length, getD}
 use Rattle.lists.specs.Tab.{tab}
 use Rattle.lists.specs.Below.{Below}
-use Rattle.lists.proofs.TabLaws.{length-tab, getD-tab, tab-of, tab-cong, all-tab}
 use Rattle.bits.specs.Listing.{listed, unlisted}
+use Rattle.marks.specs.Marks.{Small, Smalls}
+use Rattle.lists.proofs.TabLaws.{length-tab, getD-tab, tab-of, tab-cong, all-tab}
 use Rattle.bits.proofs.ListingLaws.{length-listed, below-listed, unlisted-listed}
-use Rattle.small.specs.Marks.{Small, Smalls}
 use Rattle.small.specs.Sampling.{firstBit, secondBit, sampled}
 use Rattle.small.specs.Encoding.{encodeBit, decodeBit, encoded, decoded}
 use Rattle.small.proofs.BitLaws.{xor-lt, difference-small, decodeBit-encodeBit}

@@ -9,11 +9,9 @@ ghost use Rattle.lists.specs.Tab.{tab};
 ghost use Rattle.lists.specs.Below.{Below};
 ghost use Rattle.residue.specs.Signed.{residueOf};
 ghost use Rattle.bits.specs.Listing.{listed};
-ghost use Rattle.small.specs.Marks.{ofMark};
+ghost use Rattle.marks.specs.Marks.{ofMark};
 ghost use Rattle.small.specs.Sampling.{firstHalf, secondHalf, sampled};
 ghost use Rattle.small.specs.Encoding.{encodeBit, decodeBit, encoded, decoded};
-
-pub mod marks;
 
 // The bits of the two halves of a block, each half through the listing by itself.
 fn list_halves(block: &[u8], halves: &mut [u8])

@@ -13,14 +13,14 @@ use Rattle.answers.specs.Answers.{numberOf, placeOf}
 use Rattle.calls.specs.Product.{productOf}
 use Rattle.text.specs.Lines.{lf, past}
 use Rattle.text.specs.Polynomials.{Reads}
+use Rattle.lines.specs.Input.{polynomialIn}
+use Rattle.lines.specs.Names.{aName, bName}
+use Rattle.lines.specs.Output.{productLines}
 use Rattle.text.proofs.PolynomialLaws.{reads-good, reads-bad}
 use Rattle.print.proofs.WriteLaws.{writes-as}
-use Rattle.line.specs.Input.{polynomialIn}
-use Rattle.line.specs.Names.{aName, bName}
-use Rattle.line.specs.Output.{productLines}
+use Rattle.lines.proofs.InputLaws.{set-small, line-residues}
+use Rattle.lines.proofs.OutputLaws.{answer-short}
 use Rattle.line.proofs.ChosenLaws.{chosen-product, chosen-room}
-use Rattle.line.proofs.InputLaws.{set-small, line-residues}
-use Rattle.line.proofs.OutputLaws.{answer-short}
 use Rattle.line.proofs.Printed.{printed-second, printed-third, printed-more, printed-product}
 use Rattle.line.proofs.after_first.Statement.{statement}
 use Rattle.line.proofs.after_first.Tie as tie

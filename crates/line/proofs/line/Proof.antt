@@ -12,11 +12,11 @@ use Rattle.answers.specs.declared.Parameters.{Parameters}
 use Rattle.answers.specs.declared.SetChoice.the-variants.{Known}
 use Rattle.answers.specs.Sets.{setOf}
 use Rattle.text.specs.declared.Number.the-variants.{Is}
+use Rattle.lines.specs.Input.{setIn}
 use Rattle.answers.proofs.SetLaws.{IsSet, known-set}
 use Rattle.print.proofs.WriteLaws.{writes-as}
-use Rattle.line.specs.Input.{setIn}
+use Rattle.lines.proofs.OutputLaws.{answer-short}
 use Rattle.line.specs.Line.{Line}
-use Rattle.line.proofs.OutputLaws.{answer-short}
 use Rattle.line.proofs.Printed.{printed-long, printed-first, printed-unknown}
 use Rattle.line.proofs.line.Statement.{statement}
 use Rattle.line.proofs.line.Tie as tie

@@ -5,9 +5,9 @@ use native.Mathlib.Omega.{arith}
 use lib.ListN.{length}
 use denote.Ref.{now}
 use Rattle.answers.specs.Answers.{numberOf, placeOf}
+use Rattle.lines.specs.Output.{answerLines, productLines}
 use Rattle.print.proofs.WriteLaws.{then-writes, writes-as}
-use Rattle.line.specs.Output.{answerLines, productLines}
-use Rattle.line.proofs.OutputLaws.{length-product}
+use Rattle.lines.proofs.OutputLaws.{length-product}
 use Rattle.line.proofs.put_lines.Statement.{statement}
 use Rattle.line.proofs.put_lines.Tie as tie
 

@@ -6,8 +6,8 @@ use native.Mathlib.Omega.{arith}
 use lib.ListN.{length, getD, length-set}
 use denote.Ref.{now}
 use borrow.Author.Needs.{needs}
-use Rattle.lists.proofs.Fill.{Fill, fill-start, fill-turn, fill-as, fill-list}
 use Rattle.residue.specs.Field.{q}
+use Rattle.lists.proofs.Fill.{Fill, fill-start, fill-turn, fill-as, fill-list}
 use Rattle.packing.specs.Packing.{threeBytes, packed}
 use Rattle.packing.proofs.PackingLaws.{length-packed, packed-at, nth}
 use Rattle.packing.proofs.pack.Statement.{statement}

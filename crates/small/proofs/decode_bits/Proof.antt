@@ -4,8 +4,8 @@ use mathlib.Core.Path.{refl}
 use Prim.Native.Nat.{_+_, _-_}
 use lib.ListN.{getD}
 use borrow.Author.Needs.{needs}
+use Rattle.marks.specs.Marks.{ofMark}
 use Rattle.lists.proofs.Fill.{Fill, fill-start, fill-turn, fill-end}
-use Rattle.small.specs.Marks.{ofMark}
 use Rattle.small.specs.Encoding.{decodeBit}
 use Rattle.small.proofs.decode_bits.Statement.{statement}
 use Rattle.small.proofs.decode_bits.Tie as tie

@@ -4,8 +4,8 @@ use mathlib.Core.Path.{refl}
 use Prim.Native.Nat.{_+_, _-_}
 use lib.ListN.{getD}
 use borrow.Author.Needs.{needs}
-use Rattle.lists.proofs.Fill.{Fill, fill-start, fill-turn, fill-end}
 use Rattle.residue.specs.Signed.{residueOf}
+use Rattle.lists.proofs.Fill.{Fill, fill-start, fill-turn, fill-end}
 use Rattle.small.specs.Encoding.{encodeBit}
 use Rattle.small.proofs.encode_bits.Statement.{statement}
 use Rattle.small.proofs.encode_bits.Tie as tie

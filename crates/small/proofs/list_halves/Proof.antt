@@ -8,8 +8,8 @@ use lib.ListN.{length, take, drop, length-take}
 use lib.Seq.{length-take-le}
 use denote.Ref.{now}
 use borrow.Rule.Slice.PartAt.{part-to-end}
-use Rattle.lists.proofs.Parts.{both-parts}
 use Rattle.bits.specs.Listing.{listed}
+use Rattle.lists.proofs.Parts.{both-parts}
 use Rattle.small.specs.Sampling.{firstHalf, secondHalf}
 use Rattle.small.proofs.Halves.{length-first-bits}
 use Rattle.small.proofs.list_halves.Statement.{statement}

@@ -5,8 +5,8 @@ use Prim.Native.Nat.{_+_, _-_}
 use lib.IntN.{pos, _-ℤ_}
 use lib.ListN.{getD}
 use borrow.Author.Needs.{needs}
-use Rattle.lists.proofs.Fill.{Fill, fill-start, fill-turn, fill-end}
 use Rattle.residue.specs.Signed.{residueOf}
+use Rattle.lists.proofs.Fill.{Fill, fill-start, fill-turn, fill-end}
 use Rattle.small.proofs.sample_bits.Statement.{statement}
 use Rattle.small.proofs.sample_bits.Tie as tie
 
