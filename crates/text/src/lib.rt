@@ -1,5 +1,5 @@
-// The lines of ringline, what it reads and what it prints, as functions on bytes. The enums stand here, since a module
-// can't have a function `number` and an enum `Number`.
+// The grammar of ringline's lines: what a piece of text is. The enums stand here, since a module can't have a function
+// `number` and an enum `Number`.
 pub mod read;
 
 // What a piece of text is, as a number.
