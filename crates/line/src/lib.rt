@@ -4,16 +4,13 @@ use answers::SetChoice;
 use lines::input::polynomial_in;
 use lines::input::set_in;
 use lines::output::put_answer;
-use lines::output::put_number;
-use lines::output::put_product;
+use lines::output::put_lines;
 use text::Number;
 use text::read::past;
 ghost use mathlib.Core.Path.{_≡_};
-ghost use Prim.Native.Nat.{_<_, _≤_};
+ghost use Prim.Native.Nat.{_≤_};
 ghost use lib.ListN.{length};
-ghost use Rattle.answers.specs.Answers.{numberOf, placeOf};
 ghost use Rattle.print.specs.Write.{Writes};
-ghost use Rattle.lines.specs.Output.{productLines};
 ghost use Rattle.line.specs.Chosen.{Chosen};
 ghost use Rattle.line.specs.Line.{printed, Line};
 
@@ -22,17 +19,6 @@ fn numbers() -> [u16; 1152]
     ensures { λ r. ⌜ 1152 ≡ length r ⌝ }
 {
     [0; 1152]
-}
-
-// The four lines after an answer of 0.
-fn put_lines(answer: Answer, set: usize, list: &[u16], out: &mut [u8]) -> usize
-    requires { ⌜ (numberOf answer ≡ 0) × (placeOf answer ≡ 0) × (set < 100000) × (length (now list) ≤ 100000) ⌝ }
-    requires { ⌜ length (productLines set (now list)) ≤ length (now out) ⌝ }
-    ensures { λ r. ⌜ Writes (now (out .entry)) 0 (productLines set (now (list .entry))) (now (out .exit)) r ⌝ }
-{
-    let next = put_answer(answer, out);
-    let last = put_number(b"set=", set, next, out);
-    put_product(list, last, out)
 }
 
 // The lines after the first, where that has named a known set. The lists are room for n numbers each.

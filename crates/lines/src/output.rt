@@ -1,15 +1,16 @@
 // The printed lines.
 use answers::Answer;
+ghost use mathlib.Core.Path.{_≡_};
 ghost use Prim.Native.Nat.{_+_, _<_, _≤_};
 ghost use lib.ListN.{length};
 ghost use Rattle.answers.specs.Answers.{numberOf, placeOf};
 ghost use Rattle.print.specs.Printing.{decimal, printedPolynomial};
 ghost use Rattle.print.specs.Write.{Writes};
 ghost use Rattle.lines.specs.Names.{productName};
-ghost use Rattle.lines.specs.Output.{lineOf, answerLines};
+ghost use Rattle.lines.specs.Output.{lineOf, answerLines, productLines};
 
 // A line of a name and a number.
-pub fn put_number(name: &[u8], v: usize, at: usize, out: &mut [u8]) -> usize
+fn put_number(name: &[u8], v: usize, at: usize, out: &mut [u8]) -> usize
     requires { ⌜ (v < 100000) × (at + length (lineOf (now name) (decimal v)) ≤ length (now out)) ⌝ }
     ensures { λ r. ⌜ Writes (now (out .entry)) at (lineOf (now (name .entry)) (decimal v)) (now (out .exit)) r ⌝ }
 {
@@ -18,7 +19,7 @@ pub fn put_number(name: &[u8], v: usize, at: usize, out: &mut [u8]) -> usize
     print::put_byte(b'\n', end, out)
 }
 
-pub fn put_product(list: &[u16], at: usize, out: &mut [u8]) -> usize
+fn put_product(list: &[u16], at: usize, out: &mut [u8]) -> usize
     requires { ⌜ (length (now list) ≤ 100000) × (at + length (lineOf productName (printedPolynomial (now list))) ≤ length (now out)) ⌝ }
     ensures { λ r. ⌜ Writes (now (out .entry)) at (lineOf productName (printedPolynomial (now (list .entry)))) (now (out .exit)) r ⌝ }
 {
@@ -34,4 +35,15 @@ pub fn put_answer(answer: Answer, out: &mut [u8]) -> usize
 {
     let next = put_number(b"code=", answers::number(answer), 0, out);
     put_number(b"place=", answers::place(answer), next, out)
+}
+
+// The four lines after an answer of 0.
+pub fn put_lines(answer: Answer, set: usize, list: &[u16], out: &mut [u8]) -> usize
+    requires { ⌜ (numberOf answer ≡ 0) × (placeOf answer ≡ 0) × (set < 100000) × (length (now list) ≤ 100000) ⌝ }
+    requires { ⌜ length (productLines set (now list)) ≤ length (now out) ⌝ }
+    ensures { λ r. ⌜ Writes (now (out .entry)) 0 (productLines set (now (list .entry))) (now (out .exit)) r ⌝ }
+{
+    let next = put_answer(answer, out);
+    let last = put_number(b"set=", set, next, out);
+    put_product(list, last, out)
 }

@@ -5,11 +5,11 @@ use native.Mathlib.Omega.{arith}
 use lib.ListN.{length}
 use denote.Ref.{now}
 use Rattle.answers.specs.Answers.{numberOf, placeOf}
-use Rattle.lines.specs.Output.{answerLines, productLines}
 use Rattle.print.proofs.WriteLaws.{then-writes, writes-as}
+use Rattle.lines.specs.Output.{answerLines, productLines}
 use Rattle.lines.proofs.OutputLaws.{length-product}
-use Rattle.line.proofs.put_lines.Statement.{statement}
-use Rattle.line.proofs.put_lines.Tie as tie
+use Rattle.lines.proofs.output.put_lines.Statement.{statement}
+use Rattle.lines.proofs.output.put_lines.Tie as tie
 
 -- the answer's lines are those of 0
 answered : (s : tie.Start) → answerLines (numberOf (s .args .answer)) (placeOf (s .args .answer)) ≡ answerLines 0 0
