@@ -11,9 +11,10 @@ use Rattle.lists.specs.Tab.{tab}
 use Rattle.residue.specs.Field.{q, powq, invq}
 use Rattle.residue.specs.Residues.{Residues}
 use Rattle.lists.proofs.TabLaws.{length-tab, getD-tab, cond-both}
-use Rattle.residue.proofs.FieldLaws.{addq-lt, subq-lt, mulq-lt}
+use Rattle.residue.proofs.FieldLaws.{addq-lt, subq-lt, mulq-lt, invq-lt}
 use Rattle.algebra.specs.Numbers.{Numbers, residues, sum}
-use Rattle.algebra.specs.Product.{schoolbook, foldLow, foldHigh, fold, product, times}
+use Rattle.algebra.specs.Product.{schoolbook, foldLow, foldHigh, fold, product}
+use Rattle.algebra.specs.SlotBySlot.{plus, minus, times, inverses}
 use Rattle.algebra.specs.Transform.{exponent, value, image, slotSum, partner, reverse}
 use Rattle.algebra.proofs.Ring.{Ring, pow-mul}
 use Rattle.algebra.proofs.Sum.{sum-cong}
@@ -67,6 +68,18 @@ pub times-residues : (n : ℕ) (a b : List ℕ) → Residues n (times n a b)
 unfolding times
 times-residues n a b = tab-residues n _ (λ k. mulq-lt _ _)
 
+pub plus-residues : (n : ℕ) (a b : List ℕ) → Residues n (plus n a b)
+unfolding plus
+plus-residues n a b = tab-residues n _ (λ k. addq-lt _ _)
+
+pub minus-residues : (n : ℕ) (a b : List ℕ) → Residues n (minus n a b)
+unfolding minus
+minus-residues n a b = tab-residues n _ (λ k. subq-lt _ _)
+
+pub inverses-residues : (n : ℕ) (a : List ℕ) → Residues n (inverses n a)
+unfolding inverses
+inverses-residues n a = tab-residues n _ (λ k. invq-lt _)
+
 value-lt : (n : ℕ) (a : List ℕ) (x : ℕ) → value n a x < q
 unfolding value
 value-lt n a x = sum-lt n _
@@ -89,6 +102,14 @@ product-is h a b i l = coeffs-tab (h + h) _ i l ∙ map-folded residues num ι �
 pub times-is : (n : ℕ) (a b : List ℕ) (k : ℕ) → k < n → coeffs (times n a b) k ≡ coeffs a k ⊗ coeffs b k
 unfolding times
 times-is n a b k l = coeffs-tab n _ k l ∙ ι-keeps .mul _ _
+
+pub plus-is : (n : ℕ) (a b : List ℕ) (k : ℕ) → k < n → coeffs (plus n a b) k ≡ coeffs a k ⊕ coeffs b k
+unfolding plus
+plus-is n a b k l = coeffs-tab n _ k l ∙ ι-keeps .add _ _
+
+pub minus-is : (n : ℕ) (a b : List ℕ) (k : ℕ) → k < n → coeffs (minus n a b) k ≡ num .sub (coeffs a k) (coeffs b k)
+unfolding minus
+minus-is n a b k l = coeffs-tab n _ k l ∙ ι-keeps .sub _ _
 
 value-is : (n : ℕ) (a : List ℕ) (x : ℕ) → ι (value n a x) ≡ valueIn F n (coeffs a) (ι x)
 unfolding value valueIn

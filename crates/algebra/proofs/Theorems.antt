@@ -9,8 +9,9 @@ use Rattle.residue.specs.Residues.{Residues}
 use Rattle.residue.specs.Signed.{residueOf}
 use Rattle.residue.proofs.SignedLaws.{residueOf-add, residueOf-sub, residueOf-mul}
 use Rattle.algebra.specs.Numbers.{residues, wholes}
-use Rattle.algebra.specs.Product.{product, times}
+use Rattle.algebra.specs.Product.{product}
 use Rattle.algebra.specs.Roots.{IsRoot}
+use Rattle.algebra.specs.SlotBySlot.{times}
 use Rattle.algebra.specs.Transform.{image, reverse}
 use Rattle.algebra.proofs.Map.{Map, map-product}
 use Rattle.algebra.proofs.Image as I

@@ -1,4 +1,5 @@
 pub mod Numbers
 pub mod Product
 pub mod Roots
+pub mod SlotBySlot
 pub mod Transform

@@ -6,7 +6,6 @@ use Prim.Native.Nat.{ℕ, suc, _+_, _-_}
 use lib.Dec.{eqb, ltb}
 use lib.ListN.{getD}
 use Rattle.lists.specs.Tab.{tab}
-use Rattle.residue.specs.Field.{mulq}
 use Rattle.algebra.specs.Numbers.{Numbers, sum}
 
 -- coefficient i, 0 past the end
@@ -34,7 +33,3 @@ product N h a b = tab (h + h) (fold N h (schoolbook N (coefficient N a) (coeffic
 -- x^i
 unfoldable pub monomial : ℕ → ℕ → List ℕ
 monomial n i = tab n (λ k. cond (eqb k i) 1 0)
-
--- slot by slot
-unfoldable pub times : ℕ → List ℕ → List ℕ → List ℕ
-times n a b = tab n (λ k. mulq (getD a k 0) (getD b k 0))

@@ -13,9 +13,10 @@ use Rattle.answers.specs.declared.Answer.{Answer}
 use Rattle.answers.specs.declared.Answer.the-variants.{Done, UnknownSet, WrongLength, TooLarge}
 use Rattle.answers.specs.declared.Parameters.{Parameters}
 use Rattle.answers.specs.declared.SetChoice.the-variants.{Known, Unknown}
+use Rattle.answers.specs.Answers.{numberOf, placeOf}
 use Rattle.answers.specs.Replies.{Reply, reply, Outcome}
 use Rattle.answers.specs.Sets.{setOf, forSet}
-use Rattle.answers.specs.Tests.{inOrder, inRange}
+use Rattle.answers.specs.Tests.{inOrder, atFirst, inRange}
 
 -- what is so of the set that is known
 pub for-known : {A : Type 0} (set : ℕ) (s : Parameters) (other : A) (f : Parameters → A) → setOf set ≡ Known s → forSet (setOf set) other f ≡ f s
@@ -33,10 +34,15 @@ module _ (set : ℕ) (fits : Parameters → Bool) (rest : Parameters → Reply) 
   pub in-order : fits s ≡ true → inOrder set fits rest ≡ rest s
   in-order f = tests ∙ ap (λ b. cond b (rest s) (reply 2 0)) f
 
--- where no number is above 3456, the rest
+-- where a test of numbers holds nowhere, the rest
+pub none-found : (number : ℕ) (bad : ℕ → Bool) (inputs : List (List ℕ)) (rest : Reply) → length (flatten inputs) ≤ firstThrough bad inputs
+    → atFirst number bad inputs rest ≡ rest
+unfolding atFirst
+none-found number bad inputs rest h = simp (le-ltb (firstThrough bad inputs) (length (flatten inputs)) h)
+
 pub clear : (inputs : List (List ℕ)) (rest : Reply) → length (flatten inputs) ≤ firstThrough tooLarge inputs → inRange inputs rest ≡ rest
 unfolding inRange
-clear inputs rest h = simp (le-ltb (firstThrough tooLarge inputs) (length (flatten inputs)) h)
+clear = none-found 3 tooLarge
 
 -- ---- so what is owed at each exit
 
@@ -67,16 +73,29 @@ module _ (Holds : Reply → Type 0) where
       pub right-lengths : fits s ≡ true → (r : Answer) → Outcome (rest s) r Holds → Owed r
       right-lengths f r = subst (λ R. Outcome R r Holds) (sym (in-order set fits rest s e f))
 
+  module _ (number : ℕ) (bad : ℕ → Bool) (inputs : List (List ℕ)) (rest : Reply) where
+    -- 3, 4 or 5 at the first place where the test holds
+    pub found : (r : Answer) (at : ℕ) → numberOf r ≡ number → placeOf r ≡ at → at ≡ firstThrough bad inputs → at < length (flatten inputs)
+        → Holds (reply number at) → Outcome (atFirst number bad inputs rest) r Holds
+    unfolding atFirst
+    found r at en ep e h x =
+        subst (λ R. Outcome R r Holds)
+        (sym (ap (λ k. cond (ltb k (length (flatten inputs))) (reply number k) rest) (sym e)
+        ∙ ap (λ b. cond b (reply number at) rest) (lt-ltb at (length (flatten inputs)) h)))
+        (record { number = en; place = ep; content = x })
+
+    -- otherwise the rest
+    pub not-found : length (flatten inputs) ≤ firstThrough bad inputs → (r : Answer) → Outcome rest r Holds → Outcome (atFirst number bad inputs rest) r Holds
+    not-found h r = subst (λ R. Outcome R r Holds) (sym (none-found number bad inputs rest h))
+
   module _ (inputs : List (List ℕ)) (rest : Reply) where
     -- 3 at the first number above 3456
     pub too-large : (at : ℕ) → at ≡ firstThrough tooLarge inputs → at < length (flatten inputs) → Holds (reply 3 at)
         → Outcome (inRange inputs rest) (TooLarge at) Holds
     unfolding inRange
-    too-large at e h x =
-        subst (λ R. Outcome R (TooLarge at) Holds)
-        (sym (ap (λ k. cond (ltb k (length (flatten inputs))) (reply 3 k) rest) (sym e) ∙ ap (λ b. cond b (reply 3 at) rest) (lt-ltb at (length (flatten inputs)) h)))
-        (record { number = refl; place = refl; content = x })
+    too-large at = found 3 tooLarge inputs rest (TooLarge at) at refl refl
 
     -- otherwise the rest
     pub in-range : length (flatten inputs) ≤ firstThrough tooLarge inputs → (r : Answer) → Outcome rest r Holds → Outcome (inRange inputs rest) r Holds
-    in-range h r = subst (λ R. Outcome R r Holds) (sym (clear inputs rest h))
+    unfolding inRange
+    in-range = not-found 3 tooLarge inputs rest

@@ -2,7 +2,7 @@
 -- Assumes nothing.
 use mathlib.Core.Bool.{Bool, true, false, cond}
 use mathlib.Core.Path.{_≡_, refl}
-use Prim.Native.Nat.{ℕ, _+_, _*_, _≤_}
+use Prim.Native.Nat.{ℕ, _+_, _*_, _%_, _≤_}
 use native.Mathlib.Omega.{arith}
 use lib.Dec.{eqb}
 use borrow.Author.Tests.{eqb-true}
@@ -18,16 +18,56 @@ pub record IsSet (set : ℕ) (s : Parameters) : Type 0 where
   pub small : s .n ≤ 1152
   pub turns : s .step * (6 * s .half) ≡ 3456
   pub root : powq generator (s .step) ≡ s .root
+  pub seed : s .seed ≡ 4 * s .message
+  pub packed : s .packed ≡ 3 * s .half
+  pub private : s .private ≡ s .packed + s .packed
+  pub hblock : s .hblock ≡ 32 + s .gblock
+  pub eighth : s .half ≡ 4 * s .message
+  pub words : s .message % 4 ≡ 0
+  pub gblock : s .gblock ≡ 2 * s .message
+  pub key : s .key ≡ 32
 
 -- ---- the two sets, by computed tests
 
 is-576 : IsSet 576 (parametersOf 576 49 2)
 unfolding parametersOf powq
-is-576 = record { size = refl; whole = refl; slots = refl; small = omega arith; turns = refl; root = refl }
+is-576 =
+    record {
+      size = refl;
+      whole = refl;
+      slots = refl;
+      small = omega arith;
+      turns = refl;
+      root = refl;
+      seed = refl;
+      packed = refl;
+      private = refl;
+      hblock = refl;
+      eighth = refl;
+      words = refl;
+      gblock = refl;
+      key = refl;
+    }
 
 is-1152 : IsSet 1152 (parametersOf 1152 7 1)
 unfolding parametersOf powq
-is-1152 = record { size = refl; whole = refl; slots = refl; small = omega arith; turns = refl; root = refl }
+is-1152 =
+    record {
+      size = refl;
+      whole = refl;
+      slots = refl;
+      small = omega arith;
+      turns = refl;
+      root = refl;
+      seed = refl;
+      packed = refl;
+      private = refl;
+      hblock = refl;
+      eighth = refl;
+      words = refl;
+      gblock = refl;
+      key = refl;
+    }
 
 -- ---- so every set that is known is one
 

@@ -1,4 +1,4 @@
--- The tests that every call makes, in order, and the one that calls on numbers make then.
+-- The tests that every call makes, in order, and those of numbers that it may make then.
 -- Assumes nothing: these are definitions.
 use mathlib.Core.Bool.{Bool, cond}
 use mathlib.Core.List.{List, flatten}
@@ -15,7 +15,11 @@ use Rattle.answers.specs.Sets.{setOf, forSet}
 unfoldable pub inOrder : ℕ → (Parameters → Bool) → (Parameters → Reply) → Reply
 inOrder set fits rest = forSet (setOf set) (reply 1 0) (λ s. cond (fits s) (rest s) (reply 2 0))
 
+-- a test of numbers, made through several inputs: this number is answered, and the first place at which the test holds; otherwise the rest decides
+unfoldable pub atFirst : ℕ → (ℕ → Bool) → List (List ℕ) → Reply → Reply
+atFirst number bad inputs rest =
+    cond (ltb (firstThrough bad inputs) (length (flatten inputs))) (reply number (firstThrough bad inputs)) rest
+
 -- 3: "a list number or packed group is above 3456", "first such, counted through the inputs as listed"; otherwise the rest decides
 unfoldable pub inRange : List (List ℕ) → Reply → Reply
-inRange inputs rest =
-    cond (ltb (firstThrough tooLarge inputs) (length (flatten inputs))) (reply 3 (firstThrough tooLarge inputs)) rest
+inRange inputs rest = atFirst 3 tooLarge inputs rest

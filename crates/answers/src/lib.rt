@@ -1,6 +1,8 @@
 // What a call can answer, and what a set number decides.
 ghost use mathlib.Core.Path.{_≡_};
-ghost use mathlib.Core.Bool.{_&&_};
+ghost use mathlib.Core.Bool.{cond, _&&_};
+ghost use Prim.Native.Nat.{_+_, _<_};
+ghost use lib.Dec.{ltb};
 ghost use Rattle.answers.specs.Answers.{numberOf, placeOf};
 ghost use Rattle.answers.specs.Sets.{setOf};
 
@@ -109,4 +111,12 @@ pub fn both(a: bool, b: bool) -> bool
     ensures { λ r. ⌜ r ≡ (a && b) ⌝ }
 {
     if a { b } else { false }
+}
+
+// A place found in one of two inputs, counted through both: the first holds n numbers, and n stands for none of them.
+pub fn through(n: usize, first: usize, rest: usize) -> usize
+    requires { ⌜ n + rest < 65536 ⌝ }
+    ensures { λ r. ⌜ r ≡ cond (ltb first n) first (n + rest) ⌝ }
+{
+    if first < n { first } else { n + rest }
 }

@@ -14,13 +14,6 @@ ghost use Rattle.print.specs.Write.{Writes};
 ghost use Rattle.line.specs.Chosen.{Chosen};
 ghost use Rattle.line.specs.Line.{printed, Line};
 
-// Room for the numbers of the larger set.
-fn numbers() -> [u16; 1152]
-    ensures { λ r. ⌜ 1152 ≡ length r ⌝ }
-{
-    [0; 1152]
-}
-
 // The lines after the first, where that has named a known set. The lists are room for n numbers each.
 fn after_first(
     set: usize,
@@ -61,9 +54,9 @@ pub fn line(input: &[u8], output: &mut [u8; 16384]) -> usize
             SetChoice::Unknown => put_answer(Answer::UnknownSet, output),
             SetChoice::Known(s) => {
                 let n = s.n;
-                let mut a = numbers();
-                let mut b = numbers();
-                let mut c = numbers();
+                let mut a = rooms::numbers();
+                let mut b = rooms::numbers();
+                let mut c = rooms::numbers();
                 after_first(set, input, &mut a[..n], &mut b[..n], &mut c[..n], output)
             }
         },

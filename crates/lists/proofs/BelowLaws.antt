@@ -3,7 +3,7 @@
 use mathlib.Core.List.{List, [], _∷_, _++_}
 use Prim.Native.Nat.{ℕ, zero, suc, _<_}
 use native.Mathlib.Omega.{arith}
-use lib.ListN.{getD, take, drop}
+use lib.ListN.{length, getD, take, drop}
 use lib.Seq.{getD-drop}
 use Rattle.lists.specs.Tab.{tab}
 use Rattle.lists.specs.Below.{Below}
@@ -24,6 +24,11 @@ module _ {m : ℕ} where
 
   below-rest : {x : ℕ} {xs : List ℕ} → Below m (x ∷ xs) → Below m xs
   below-rest h = record { low = λ i. h .low (suc i) }
+
+  -- a list by its places: past them stands 0
+  pub below-places : 0 < m → (l : List ℕ) → ((i : ℕ) → i < length l → getD l i 0 < m) → Below m l
+  below-places some [] h = below-nil some
+  below-places some (x ∷ l) h = below-cons (h 0 (omega arith)) (below-places some l (λ i b. h (suc i) (omega arith)))
 
   -- a table
   pub below-tab : 0 < m → (n : ℕ) (f : ℕ → ℕ) → ((i : ℕ) → f i < m) → Below m (tab n f)

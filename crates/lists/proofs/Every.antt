@@ -6,6 +6,7 @@ use Prim.Native.Nat.{ℕ, zero, suc, _<_}
 use native.Mathlib.Decide.{ℕ-discrete}
 use native.Mathlib.Omega.{arith}
 use lib.Dec.{T}
+use Rattle.lists.specs.Every.{below}
 
 -- what a passed test of two says of each
 pub and-left : (a b : Bool) → T (a && b) → T a
@@ -20,11 +21,7 @@ pub both-true : (a b : Bool) → (a && b) ≡ true → (a ≡ true) × (b ≡ tr
 both-true true b e = (refl, e)
 both-true false b e = absurd (false≢true e)
 
--- the test holds at each number below n
-unfoldable pub below : (ℕ → Bool) → ℕ → Bool
-below p zero = true
-below p (suc n) = p n && below p n
-
+-- the test's fact at each of the numbers
 pub at-below : (p : ℕ → Bool) (n : ℕ) → T (below p n) → (k : ℕ) → k < n → T (p k)
 unfolding below
 at-below p zero t k h = absurd (omega arith)

@@ -1,14 +1,16 @@
 -- The laws of the first place at which a test holds: what it says of the places, the turns of a loop that looks for it, several lists.
 -- Assumes nothing.
-use mathlib.Core.Path.{_≡_, refl, ap}
-use mathlib.Core.Bool.{Bool, true, false, cond}
+use mathlib.Core.Path.{_≡_, refl, sym, ap, _∙_}
+use mathlib.Core.Bool.{Bool, true, false, false≢true, cond}
 use mathlib.Core.List.{List, [], _∷_, _++_, flatten, append-nil}
 use Prim.Native.Nat.{ℕ, zero, suc, _+_, _≤_, _<_}
 use native.Mathlib.Decide.{decLt}
 use native.Mathlib.Numerals.{add-one}
 use native.Mathlib.Omega.{arith}
+use lib.Dec.{ltb}
 use lib.ListN.{length, getD, drop, length-append}
 use lib.Seq.{drop-cons}
+use borrow.Author.Tests.{lt-ltb, le-ltb}
 use Rattle.lists.specs.First.{firstWhere, firstThrough}
 
 -- the lists one after the other are as long as all of them
@@ -55,6 +57,14 @@ module _ (p : ℕ → Bool) where
           → (firstWhere p xs < length xs → p (getD xs (firstWhere p xs) 0) ≡ true) → p (getD (x ∷ xs) (cond b 0 (suc (firstWhere p xs))) 0) ≡ true
       by true e h r = e
       by false e h r = r (omega arith)
+
+  -- where the test holds at no place, it is the length
+  pub first-nowhere : (xs : List ℕ) → ((i : ℕ) → i < length xs → p (getD xs i 0) ≡ false) → firstWhere p xs ≡ length xs
+  first-nowhere xs h = by (decLt (firstWhere p xs) (length xs))
+    where
+      by : Dec (firstWhere p xs < length xs) → firstWhere p xs ≡ length xs
+      by (yes b) = absurd (false≢true (sym (h (firstWhere p xs) b) ∙ first-holds xs b))
+      by (no b) = omega (arith, first-within xs, b)
 
   -- ---- the turns of a loop at the place i, and its end
 
@@ -104,6 +114,18 @@ module _ (p : ℕ → Bool) where
   pub through-past : (l : List ℕ) (ls : List (List ℕ)) → length l ≤ firstWhere p l → firstThrough p (l ∷ ls) ≡ length l + firstThrough p ls
   unfolding firstThrough flatten
   through-past l ls h = append-past l (flatten ls) h
+
+  -- so the one or the other, by a test of the place in the first list
+  pub through-cond : (l : List ℕ) (ls : List (List ℕ))
+      → firstThrough p (l ∷ ls) ≡ cond (ltb (firstWhere p l) (length l)) (firstWhere p l) (length l + firstThrough p ls)
+  through-cond l ls = by (decLt (firstWhere p l) (length l))
+    where
+      by : Dec (firstWhere p l < length l)
+          → firstThrough p (l ∷ ls) ≡ cond (ltb (firstWhere p l) (length l)) (firstWhere p l) (length l + firstThrough p ls)
+      by (yes b) = through-here l ls b ∙ sym (ap (λ t. cond t (firstWhere p l) (length l + firstThrough p ls)) (lt-ltb (firstWhere p l) (length l) b))
+      by (no b) =
+          through-past l ls (omega (arith, b))
+          ∙ sym (ap (λ t. cond t (firstWhere p l) (length l + firstThrough p ls)) (le-ltb (firstWhere p l) (length l) (omega (arith, b))))
 
   -- of one list: its own first place
   pub through-one : (l : List ℕ) → firstThrough p (l ∷ []) ≡ firstWhere p l

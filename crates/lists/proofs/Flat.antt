@@ -1,14 +1,14 @@
 -- Groups of w elements put one after the other: their length, their elements, and a list as its groups. Once over w.
 -- Assumes nothing.
 use mathlib.Core.Path.{_≡_, sym, ap, _∙_}
-use mathlib.Core.List.{List, _++_, flatten}
+use mathlib.Core.List.{List, _++_, append-assoc, flatten}
 use Prim.Native.Nat.{ℕ, zero, suc, _+_, _*_, _/_, _%_, _<_}
-use native.Mathlib.Nat.{div-add-mod, div-lt-iff-lt-mul, mod-lt, pos-of-ne-zero}
+use native.Mathlib.Nat.{div-add-mod, div-lt-iff-lt-mul, mod-lt, pos-of-ne-zero, zero-add, suc-add}
 use native.Mathlib.Omega.{arith}
 use lib.ListN.{length, getD, length-append, List·getD-append}
 use lib.Seq.{ext-getD, getD-append-add}
 use Rattle.lists.specs.Tab.{tab}
-use Rattle.lists.proofs.TabLaws.{length-tab, getD-tab, tab-of}
+use Rattle.lists.proofs.TabLaws.{length-tab, getD-tab, tab-of, tab-cong}
 
 module _ (w : ℕ) where
   -- k groups of w elements are w k elements
@@ -52,3 +52,12 @@ module _ (w : ℕ) where
           ap (λ j. getD l j 0) (sym s) ∙ sym (getD-tab w (λ r. getD l (w * (j / w) + r) 0) (j % w) 0 (mod-lt j p))
           ∙ sym (getD-flat k g long (j / w) (j % w) (div-lt-iff-lt-mul p .1 (omega arith)) (mod-lt j p))
           ∙ ap (λ j. getD (flatten (tab k g)) j 0) s
+
+-- groups in two runs: the first k, then the others
+pub flat-add : (k j : ℕ) (g : ℕ → List ℕ) → flatten (tab (k + j) g) ≡ flatten (tab k g) ++ flatten (tab j (λ i. g (k + i)))
+unfolding tab flatten
+flat-add zero j g = rw (zero-add j) (ap flatten (tab-cong j (λ i h. ap g (sym (zero-add i)))))
+flat-add (suc k) j g =
+    ap (λ n. flatten (tab n g)) (suc-add k j) ∙ ap (λ l. g 0 ++ l) (flat-add k j (λ i. g (suc i)))
+    ∙ sym (append-assoc (g 0) (flatten (tab k (λ i. g (suc i)))) (flatten (tab j (λ i. g (suc (k + i))))))
+    ∙ ap (λ l. g 0 ++ flatten (tab k (λ i. g (suc i))) ++ flatten l) (tab-cong j (λ i h. ap g (sym (suc-add k i))))

@@ -4,4 +4,5 @@ pub mod Parts
 pub mod Fill
 pub mod FirstLaws
 pub mod Every
+pub mod EqualLaws
 pub mod BelowLaws

@@ -1,13 +1,19 @@
--- Marks and small numbers stand for each other, each tried; what is taken by 3 is small.
+-- Marks and small numbers stand for each other, each tried; what is taken by 3 is small; bytes none of which is bad are marks.
 -- Assumes nothing.
 use mathlib.Core.Path.{_≡_, refl, ap, _∙_}
 use mathlib.Core.List.{List, [], _∷_, map}
-use Prim.Native.Nat.{ℕ, zero, suc, _%_, _<_}
+use Prim.Native.Nat.{ℕ, zero, suc, _%_, _≤_, _<_}
 use native.Mathlib.Omega.{arith}
 use lib.IntN.{ℤ, pos, negsuc, negℤ}
+use lib.ListN.{length, getD}
+use borrow.Author.Tests.{ltb-false, le-ltb}
+use Rattle.lists.specs.First.{firstWhere}
+use Rattle.lists.specs.Below.{Below}
 use Rattle.residue.specs.Field.{negq}
 use Rattle.residue.specs.Signed.{aroundZero, byThree, residueOf}
-use Rattle.marks.specs.Marks.{Small, markOf, ofMark, Smalls}
+use Rattle.lists.proofs.FirstLaws.{first-before, first-nowhere}
+use Rattle.lists.proofs.BelowLaws.{below-places}
+use Rattle.marks.specs.Marks.{Small, markOf, ofMark, noMark, Smalls}
 
 -- what holds of 0, 1 and -1 holds of each small number
 pub small-by : (P : ℤ → Type 0) → P (pos 0) → P (pos 1) → P (negsuc 0) → (z : ℤ) → Small z → P z
@@ -55,3 +61,12 @@ pub byThree-small : (z : ℤ) → Small (byThree z)
 unfolding byThree
 byThree-small (pos n) = aroundZero-small (n % 3)
 byThree-small (negsuc n) = negℤ-small (aroundZero (suc n % 3)) (aroundZero-small (suc n % 3))
+
+-- bytes none of which is bad are marks, and among marks none is bad
+pub marks-of : (l : List ℕ) → length l ≤ firstWhere noMark l → Below 3 l
+unfolding noMark
+marks-of l h = below-places (omega arith) l (λ i b. omega (arith, ltb-false 2 (getD l i 0) (first-before noMark l i (omega arith))))
+
+pub none-bad : (l : List ℕ) → Below 3 l → firstWhere noMark l ≡ length l
+unfolding noMark
+none-bad l r = first-nowhere noMark l (λ i b. le-ltb 2 (getD l i 0) (omega (arith, r .low i)))

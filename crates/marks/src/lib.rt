@@ -4,10 +4,11 @@ ghost use mathlib.Core.Path.{_≡_};
 ghost use mathlib.Core.List.{map};
 ghost use Prim.Native.Nat.{_<_};
 ghost use lib.ListN.{length};
+ghost use Rattle.lists.specs.First.{firstWhere};
 ghost use Rattle.lists.specs.Below.{Below};
 ghost use Rattle.residue.specs.Residues.{Residues};
 ghost use Rattle.residue.specs.Signed.{centredByThree, residueOf};
-ghost use Rattle.marks.specs.Marks.{Small, markOf, ofMark};
+ghost use Rattle.marks.specs.Marks.{Small, markOf, ofMark, noMark};
 
 // The mark of -1, 0 or 1.
 fn mark_of(value: i32) -> u8
@@ -57,4 +58,18 @@ pub fn unmark(marks: &[u8], list: &mut [u16])
     for i in 0..n {
         list[i] = residue_of(marks[i]).0;
     }
+}
+
+// The first byte that is no mark; the length where each is one.
+pub fn first_bad(marks: &[u8]) -> usize
+    ensures { λ r. ⌜ r ≡ firstWhere noMark (now (marks .entry)) ⌝ }
+{
+    let mut i = 0;
+    while i < marks.len() {
+        if marks[i] > 2 {
+            return i;
+        }
+        i += 1;
+    }
+    i
 }

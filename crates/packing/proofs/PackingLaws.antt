@@ -1,15 +1,16 @@
 -- Unpacking undoes packing and takes nothing else: pair by pair, by what three bytes and two groups are to each other.
 -- Assumes nothing.
 use mathlib.Core.Path.{_≡_, refl, sym, ap, ap₂, _∙_}
-use mathlib.Core.List.{List, [], _∷_, flatten}
+use mathlib.Core.List.{List, [], _∷_, _++_, flatten}
 use Prim.Native.Nat.{ℕ, _+_, _*_, _/_, _<_}
 use native.Mathlib.Omega.{arith}
-use lib.ListN.{length, getD}
+use lib.ListN.{length, getD, length-append, List·getD-append}
+use lib.Seq.{getD-append-add}
 use Rattle.lists.specs.Tab.{tab}
 use Rattle.lists.specs.Below.{Below}
 use Rattle.residue.specs.Large.{firstLarge}
 use Rattle.residue.specs.Residues.{Residues}
-use Rattle.lists.proofs.Flat.{length-flat, flat-at, flat-of}
+use Rattle.lists.proofs.Flat.{length-flat, flat-at, flat-of, flat-add}
 use Rattle.lists.proofs.TabLaws.{tab-cong}
 use Rattle.residue.proofs.LargeLaws.{residues-of, none-large}
 use Rattle.packing.specs.Packing.{threeBytes, packed, twoGroups, groups}
@@ -42,6 +43,31 @@ pub groups-at : (bs : List ℕ) (i : ℕ) → i < length bs / 3
 unfolding groups twoGroups tab
 groups-at bs i h =
     ap (λ j. getD (groups bs) j 0 ∷ getD (groups bs) (2 * i + 1) 0 ∷ []) (omega arith) ∙ flat-at 2 (length bs / 3) _ (λ i. refl) i h
+
+-- of bytes in two runs, the first of whole threes: the groups of both
+pub groups-append : (k : ℕ) (xs ys : List ℕ) → length xs ≡ 3 * k → groups (xs ++ ys) ≡ groups xs ++ groups ys
+unfolding groups
+groups-append k xs ys e =
+    ap (λ n. flatten (tab n (three (xs ++ ys)))) (omega (arith, e, length-append xs ys)) ∙ flat-add (length xs / 3) (length ys / 3) (three (xs ++ ys))
+    ∙ ap₂ (λ a b. flatten a ++ flatten b) (tab-cong (length xs / 3) first) (tab-cong (length ys / 3) second)
+  where
+    three : List ℕ → ℕ → List ℕ
+    three bs i = twoGroups (getD bs (3 * i) 0) (getD bs (3 * i + 1) 0) (getD bs (3 * i + 2) 0)
+
+    same : {x y z x′ y′ z′ : ℕ} → x ≡ x′ → y ≡ y′ → z ≡ z′ → twoGroups x y z ≡ twoGroups x′ y′ z′
+    same a b c = cc
+
+    first : (i : ℕ) → i < length xs / 3 → three (xs ++ ys) i ≡ three xs i
+    first i h =
+        same (List·getD-append xs ys 0 (3 * i) (omega (arith, e))) (List·getD-append xs ys 0 (3 * i + 1) (omega (arith, e)))
+        (List·getD-append xs ys 0 (3 * i + 2) (omega (arith, e)))
+
+    past : (i r : ℕ) → getD (xs ++ ys) (3 * (length xs / 3 + i) + r) 0 ≡ getD ys (3 * i + r) 0
+    past i r = ap (λ j. getD (xs ++ ys) j 0) (omega (arith, e)) ∙ getD-append-add xs ys (3 * i + r) 0
+
+    second : (i : ℕ) → i < length ys / 3 → three (xs ++ ys) (length xs / 3 + i) ≡ three ys i
+    second i h =
+        same (ap (λ j. getD (xs ++ ys) j 0) (omega arith) ∙ past i 0 ∙ ap (λ j. getD ys j 0) (omega arith)) (past i 1) (past i 2)
 
 -- ---- one pair
 

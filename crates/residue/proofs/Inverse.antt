@@ -5,7 +5,8 @@ use mathlib.Core.Bool.{Bool}
 use Prim.Native.Nat.{ℕ, zero, suc, _+_, _<_}
 use native.Mathlib.Omega.{arith}
 use lib.Dec.{T, eqb, eqb→eq}
-use Rattle.lists.proofs.Every.{below, at-below}
+use Rattle.lists.specs.Every.{below}
+use Rattle.lists.proofs.Every.{at-below}
 use Rattle.residue.specs.Field.{q, mulq, powq, invq}
 use Rattle.residue.proofs.FieldLaws.{mulq-comm, mulq-assoc, mulq-one, one-mulq, invq-lt}
 use Rattle.residue.proofs.PowerLaws.{powq-add, powq-one}

@@ -6,7 +6,8 @@ use Prim.Native.Nat.{ℕ, zero, suc, _+_, _*_, _-_, _/_, _%_, _<_, _≤_}
 use native.Mathlib.Nat.{div-add-mod}
 use native.Mathlib.Omega.{arith}
 use lib.Dec.{T, eqb, T-not}
-use Rattle.lists.proofs.Every.{below, at-below}
+use Rattle.lists.specs.Every.{below}
+use Rattle.lists.proofs.Every.{at-below}
 use Rattle.residue.specs.Field.{generator, mulq, powq}
 use Rattle.residue.proofs.FieldLaws.{one-mulq, powq-lt}
 use Rattle.residue.proofs.PowerLaws.{powq-add, powq-mul, one-powq}
