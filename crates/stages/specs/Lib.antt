@@ -1,0 +1,4 @@
+pub mod Images
+pub mod Making
+pub mod Sealing
+pub mod Opening
