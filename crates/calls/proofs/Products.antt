@@ -15,7 +15,7 @@ use Rattle.answers.specs.declared.SetChoice.the-variants.{Known}
 use Rattle.answers.specs.Answers.{numberOf, placeOf}
 use Rattle.answers.specs.Replies.{Reply, reply, leaves}
 use Rattle.answers.specs.Sets.{setOf, forSet}
-use Rattle.answers.specs.Tests.{inOrder, inRange}
+use Rattle.answers.specs.Tests.{inOrder, atFirst, inRange}
 use Rattle.lists.proofs.FirstLaws.{length-through, length-one, through-past, through-one}
 use Rattle.residue.proofs.LargeLaws.{none-large}
 use Rattle.calls.specs.Product.{productReply, productOf, Product}
@@ -38,7 +38,7 @@ module _ (set : ℕ) (s : Parameters) (known : setOf set ≡ Known s) (a b : Lis
 
   -- the answer is 0
   pub product-answers : (room : ℕ) → room ≡ s .n → productReply set a b room ≡ reply 0 0
-  unfolding productReply inOrder forSet inRange
+  unfolding productReply inOrder forSet inRange atFirst
   product-answers room e =
       simp (
         known,

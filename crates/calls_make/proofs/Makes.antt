@@ -1,0 +1,48 @@
+-- What `make` owes where the set is known: the lengths that passed the test, and the promise from what is owed with the set's own root.
+-- Assumes nothing.
+use mathlib.Core.Bool.{Bool, true, _&&_}
+use mathlib.Core.List.{List, [], _∷_}
+use mathlib.Core.Path.{_≡_}
+use Prim.Native.Nat.{ℕ}
+use lib.Dec.{eqb}
+use lib.ListN.{length}
+use borrow.Author.Tests.{eqb-true}
+use Rattle.residue.specs.Field.{generator, powq}
+use Rattle.algebra.specs.SlotBySlot.{isZero}
+use Rattle.answers.specs.declared.Answer.{Answer}
+use Rattle.answers.specs.declared.Parameters.{Parameters}
+use Rattle.answers.specs.declared.SetChoice.the-variants.{Known}
+use Rattle.answers.specs.Replies.{Reply, reply, leaves, Outcome}
+use Rattle.answers.specs.Sets.{setOf, forSet}
+use Rattle.answers.specs.Tests.{atFirst}
+use Rattle.stages.specs.Making.{smallF, smallG, fImage, gImage, publicKey, privateKey}
+use Rattle.answers.proofs.Exits.{right-lengths}
+use Rattle.answers.proofs.Lengths.{first-length}
+use Rattle.answers.proofs.SetLaws.{known-set}
+use Rattle.calls_make.specs.Make.{makeReply, publicOf, privateOf, Make}
+
+-- the test of the lengths
+abbrev pub fits : (seed public private : ℕ) → Parameters → Bool
+fits seed public private s = eqb seed (s .seed) && (eqb public (s .packed) && eqb private (s .private))
+
+pub right : (seed public private : ℕ) (s : Parameters) → fits seed public private s ≡ true
+    → (seed ≡ s .seed) × (public ≡ s .packed) × (private ≡ s .private)
+right seed public private s e =
+    let a = first-length seed (s .seed) (eqb public (s .packed) && eqb private (s .private)) e in
+    let b = first-length public (s .packed) (eqb private (s .private)) (a .1) in
+    (a .0, b .0, eqb-true private (s .private) (b .1))
+
+module _ (seed public private public′ private′ : List ℕ) where
+  -- what is answered once the lengths are right, and what the buffers hold then, with h = n/2 and the root w
+  abbrev pub rest : ℕ → ℕ → Reply
+  rest h w = atFirst 4 isZero (fImage h w (smallF seed) ∷ gImage h w (smallG seed) ∷ []) (reply 0 0)
+
+  abbrev pub Holds : ℕ → ℕ → Reply → Type 0
+  Holds h w R = (public′ ≡ leaves R (publicKey h w seed) public) × (private′ ≡ leaves R (privateKey h w seed) private)
+
+  pub owed : (set : ℕ) (s : Parameters) → setOf set ≡ Known s → fits (length seed) (length public) (length private) s ≡ true
+      → (r : Answer) → Outcome (rest (s .half) (powq generator (s .step))) r (Holds (s .half) (powq generator (s .step)))
+      → Make set seed public private r public′ private′
+  unfolding Make makeReply publicOf privateOf forSet
+  owed set s known f r x =
+      right-lengths _ set _ _ s known f r (rw (known, ← known-set set s known .root) x)

@@ -1,0 +1,62 @@
+// Marks to the message that they decode to.
+use answers::Answer;
+use answers::Parameters;
+use answers::SetChoice;
+ghost use mathlib.Core.Bool.{_&&_};
+ghost use mathlib.Core.List.{[], _∷_};
+ghost use mathlib.Core.Path.{_≡_};
+ghost use Prim.Native.Nat.{_*_, _%_};
+ghost use lib.Dec.{eqb};
+ghost use lib.ListN.{length};
+ghost use Rattle.marks.specs.Marks.{noMark};
+ghost use Rattle.answers.specs.Replies.{reply, leaves, Outcome};
+ghost use Rattle.answers.specs.Tests.{atFirst};
+ghost use Rattle.stages.specs.Opening.{openedMessage};
+ghost use Rattle.calls_open_2.specs.OpenTwo.{OpenTwo};
+
+// Whether each buffer has the length that the set decides.
+fn lengths(s: Parameters, marks: usize, gblock: usize, message: usize) -> bool
+    ensures { λ r. ⌜ r ≡ (eqb marks (s .n) && (eqb gblock (s .gblock) && eqb message (s .message))) ⌝ }
+{
+    answers::both(
+        marks == s.n,
+        answers::both(gblock == s.gblock, message == s.message),
+    )
+}
+
+// With buffers of the right lengths.
+fn open_2_in(
+    marks: &[u8],
+    gblock: &[u8],
+    bits: &mut [u8],
+    halves: &mut [u8],
+    message: &mut [u8],
+) -> Answer
+    requires { ⌜ (length (now message) % 4 ≡ 0) × (length (now marks) ≡ 8 * length (now message)) × (length (now gblock) ≡ 2 * length (now message)) ⌝ }
+    requires { ⌜ (length (now bits) ≡ 8 * length (now message)) × (length (now halves) ≡ 16 * length (now message)) ⌝ }
+    ensures { λ r. ⌜ Outcome (atFirst 5 noMark (now (marks .entry) ∷ []) (reply 0 0)) r (λ R. now (message .exit) ≡ leaves R (openedMessage (now (marks .entry)) (now (gblock .entry))) (now (message .entry))) ⌝ }
+{
+    let at = marks::first_bad(marks);
+    if at < marks.len() {
+        return Answer::BadMark(at);
+    }
+    small::decode(marks, gblock, bits, halves, message);
+    Answer::Done
+}
+
+pub fn open_2(set: usize, marks: &[u8], gblock: &[u8], message: &mut [u8]) -> Answer
+    ensures { λ r. ⌜ OpenTwo set (now (marks .entry)) (now (gblock .entry)) (now (message .entry)) r (now (message .exit)) ⌝ }
+{
+    match answers::set_of(set) {
+        SetChoice::Unknown => Answer::UnknownSet,
+        SetChoice::Known(s) => {
+            if !lengths(s, marks.len(), gblock.len(), message.len()) {
+                return Answer::WrongLength;
+            }
+            let n = s.n;
+            let mut bits = rooms::bits();
+            let mut halves = rooms::bits();
+            open_2_in(marks, gblock, &mut bits[..n], &mut halves[..n + n], message)
+        }
+    }
+}

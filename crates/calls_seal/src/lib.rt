@@ -1,0 +1,121 @@
+// A message, sealed with a public key.
+use answers::Answer;
+use answers::Parameters;
+use answers::SetChoice;
+ghost use mathlib.Core.Bool.{_&&_};
+ghost use mathlib.Core.List.{[], _∷_};
+ghost use mathlib.Core.Path.{_≡_};
+ghost use Prim.Native.Nat.{_+_, _*_, _%_};
+ghost use lib.Dec.{eqb};
+ghost use lib.ListN.{length};
+ghost use Rattle.residue.specs.Field.{generator, powq};
+ghost use Rattle.packing.specs.Packing.{groups};
+ghost use Rattle.answers.specs.Replies.{reply, leaves, Outcome};
+ghost use Rattle.answers.specs.Tests.{inRange};
+ghost use Rattle.slots.specs.Ready.{Ready};
+ghost use Rattle.stages.specs.Sealing.{keyBytes, ciphertext};
+ghost use Rattle.calls_seal.specs.Seal.{Seal};
+
+// Whether each buffer has the length that the set decides.
+fn lengths(
+    s: Parameters,
+    public: usize,
+    message: usize,
+    hblock: usize,
+    gblock: usize,
+    cipher: usize,
+    key: usize,
+) -> bool
+    ensures { λ r. ⌜ r ≡ (eqb public (s .packed) && (eqb message (s .message) && (eqb hblock (s .hblock) && (eqb gblock (s .gblock) && (eqb cipher (s .packed) && eqb key (s .key)))))) ⌝ }
+{
+    let outputs = answers::both(cipher == s.packed, key == s.key);
+    let blocks = answers::both(
+        hblock == s.hblock,
+        answers::both(gblock == s.gblock, outputs),
+    );
+    answers::both(
+        public == s.packed,
+        answers::both(message == s.message, blocks),
+    )
+}
+
+// With buffers of the right lengths. Nothing is written before all groups of the public key are known to be residues.
+fn seal_in(
+    half: usize,
+    step: usize,
+    public: &[u8],
+    message: &[u8],
+    hblock: &[u8],
+    gblock: &[u8],
+    powers: &[u16; 3456],
+    h: &mut [u16],
+    p: &mut [u16],
+    r: &mut [u16],
+    c: &mut [u16],
+    cipher: &mut [u8],
+    key: &mut [u8],
+) -> Answer
+    requires { ⌜ Ready half step (now powers) × (length (now public) ≡ 3 * half) × (length (now message) % 4 ≡ 0) × (half ≡ 4 * length (now message)) × (length (now hblock) ≡ 32 + length (now gblock)) × (length (now gblock) ≡ 2 * length (now message)) ⌝ }
+    requires { ⌜ (length (now h) ≡ half + half) × (length (now p) ≡ half + half) × (length (now r) ≡ half + half) × (length (now c) ≡ half + half) ⌝ }
+    requires { ⌜ (length (now cipher) ≡ 3 * half) × (length (now key) ≡ 32) ⌝ }
+    ensures { λ r. ⌜ Outcome (inRange (groups (now (public .entry)) ∷ []) (reply 0 0)) r (λ R. (now (cipher .exit) ≡ leaves R (ciphertext half (powq generator step) (now (public .entry)) (now (message .entry)) (now (hblock .entry)) (now (gblock .entry))) (now (cipher .entry))) × (now (key .exit) ≡ leaves R (keyBytes (now (hblock .entry))) (now (key .entry)))) ⌝ }
+{
+    let at = packing::unpack(public, h);
+    if at < h.len() {
+        return Answer::TooLarge(at);
+    }
+    stages::sealing::sealed_image(half, step, h, message, hblock, gblock, powers, p, r, c);
+    packing::pack(c, cipher);
+    stages::sealing::copy_key(hblock, key);
+    Answer::Done
+}
+
+pub fn seal(
+    set: usize,
+    public: &[u8],
+    message: &[u8],
+    hblock: &[u8],
+    gblock: &[u8],
+    cipher: &mut [u8],
+    key: &mut [u8],
+) -> Answer
+    ensures { λ r. ⌜ Seal set (now (public .entry)) (now (message .entry)) (now (hblock .entry)) (now (gblock .entry)) (now (cipher .entry)) (now (key .entry)) r (now (cipher .exit)) (now (key .exit)) ⌝ }
+{
+    match answers::set_of(set) {
+        SetChoice::Unknown => Answer::UnknownSet,
+        SetChoice::Known(s) => {
+            if !lengths(
+                s,
+                public.len(),
+                message.len(),
+                hblock.len(),
+                gblock.len(),
+                cipher.len(),
+                key.len(),
+            ) {
+                return Answer::WrongLength;
+            }
+            let n = s.n;
+            let powers = powers::powers();
+            let mut h = rooms::numbers();
+            let mut p = rooms::numbers();
+            let mut r = rooms::numbers();
+            let mut c = rooms::numbers();
+            seal_in(
+                s.half,
+                s.step,
+                public,
+                message,
+                hblock,
+                gblock,
+                &powers,
+                &mut h[..n],
+                &mut p[..n],
+                &mut r[..n],
+                &mut c[..n],
+                cipher,
+                key,
+            )
+        }
+    }
+}
