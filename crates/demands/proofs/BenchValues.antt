@@ -20,7 +20,7 @@ use Rattle.bits.specs.Listing.{place, goesTo}
 use Rattle.small.specs.Encoding.{xor, encodeBit, decodeBit}
 use Rattle.packing.specs.Packing.{threeBytes, packed, twoGroups, groups}
 use Rattle.answers.specs.Sets.{parametersOf, setOf, forSet}
-use Rattle.answers.specs.Tests.{inRange}
+use Rattle.answers.specs.Tests.{atFirst, inRange}
 use Rattle.calls.specs.Product.{productOf}
 use Rattle.calls.specs.Transform.{transformOf}
 use Rattle.lists.proofs.TabLaws.{getD-tab, tab-cong}
@@ -60,7 +60,7 @@ power-minus-one n s p =
     by k false false ea eb = refl
 
 pub bench-values : BenchValues
-unfolding total goesTo place xor encodeBit decodeBit powq invq centred byThree centredByThree tab firstWhere firstThrough flatten tooLarge inRange packed threeBytes groups twoGroups setOf forSet parametersOf productOf transformOf exponent x^ slot
+unfolding total goesTo place xor encodeBit decodeBit powq invq centred byThree centredByThree tab firstWhere firstThrough flatten tooLarge atFirst inRange packed threeBytes groups twoGroups setOf forSet parametersOf productOf transformOf exponent x^ slot
 bench-values =
     record {
       p1 = product-middle 288 575 1 (lit< tt) (lit< tt) 0 (lit< tt) refl ∙ power-minus-one 576 288 (lit< tt);

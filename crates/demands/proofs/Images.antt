@@ -8,8 +8,9 @@ use native.Mathlib.Omega.{arith}
 use Rattle.residue.specs.Field.{powq}
 use Rattle.residue.specs.Residues.{Residues}
 use Rattle.algebra.specs.Numbers.{residues}
-use Rattle.algebra.specs.Product.{product, times}
+use Rattle.algebra.specs.Product.{product}
 use Rattle.algebra.specs.Roots.{IsRoot}
+use Rattle.algebra.specs.SlotBySlot.{times}
 use Rattle.algebra.specs.Transform.{image, reverse}
 use Rattle.answers.specs.declared.Parameters.{Parameters}
 use Rattle.answers.specs.declared.SetChoice.{SetChoice}

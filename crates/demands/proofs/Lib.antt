@@ -1,3 +1,13 @@
 pub mod BenchValues
+pub mod ExactlyLaws
+pub mod ExactlyWhen
 pub mod Images
+pub mod SlotPlaces
 pub mod Unique
+pub mod Answered
+pub mod AgreementLaws
+pub mod Stages
+pub mod Agreed
+pub mod DemandTwo
+pub mod DemandThree
+pub mod BenchAgreement

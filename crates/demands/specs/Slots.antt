@@ -2,7 +2,7 @@
 -- Assumes nothing: this is a definition.
 use mathlib.Core.List.{List, []}
 use Prim.Native.Nat.{ℕ}
-use Rattle.algebra.specs.Product.{times}
+use Rattle.algebra.specs.SlotBySlot.{times}
 use Rattle.answers.specs.Sets.{setOf, forSet}
 
 unfoldable pub timesOf : ℕ → List ℕ → List ℕ → List ℕ
