@@ -1,27 +1,24 @@
 // The inputs that are run beside the bench values.
 use crate::agreement;
-use crate::lend;
-use crate::lend::Lent;
-use crate::refusals;
+use crate::lend::Call;
+use crate::lend::lending;
 use crate::trial;
+use crate::trial::At;
 use crate::values;
 
-// Messages with a bit in the last block, a G block with one in its second half, a key that is not zero, and another ciphertext.
+// Messages with a bit in the last block, a G block with one in its second half, key bytes, and another ciphertext.
 pub fn agreements() {
-    agreement::message(576, 66, 1);
-    agreement::message(576, 64, 2);
-    agreement::message(1152, 130, 1);
-    agreement::message(1152, 143, 1);
-    agreement::encoded(576, 72, 1);
-    agreement::encoded(1152, 144, 1);
-    agreement::key_bytes(576);
-    agreement::key_bytes(1152);
-    agreement::other_cipher(576);
-    agreement::other_cipher(1152);
-}
-
-// Keys of FF bytes, and lengths and sets that give empty parts.
-pub fn halves() {
+    let none = At(0, 0);
+    agreement::exchange(576, true, At(66, 1), none, 0, none);
+    agreement::exchange(576, true, At(64, 2), none, 0, none);
+    agreement::exchange(1152, true, At(130, 1), none, 0, none);
+    agreement::exchange(1152, true, At(143, 1), none, 0, none);
+    agreement::exchange(576, true, none, none, 0, At(72, 1));
+    agreement::exchange(1152, true, none, none, 0, At(144, 1));
+    agreement::exchange(576, true, none, none, 32, none);
+    agreement::exchange(1152, true, none, none, 32, none);
+    agreement::exchange(576, false, none, At(32, 1), 0, none);
+    agreement::exchange(1152, false, none, At(32, 1), 0, none);
     agreement::full_halves(576, 1728);
     agreement::full_halves(576, 1727);
     agreement::full_halves(576, 1729);
@@ -32,84 +29,84 @@ pub fn halves() {
     agreement::full_halves(768, 1728);
 }
 
-// Images of x, lists that come back, and powers of x that are folded.
+// Images of x, lists that come back, products that are folded, sampled bits, sets that are none (two are 576 in their low bits), large numbers.
 pub fn polynomials() {
     values::image_of_x(576, 575);
     values::image_of_x(1152, 1151);
     values::back(576);
     values::back(1152);
-    values::product(576, 575, 1);
-    values::product(576, 575, 575);
-    values::product(1152, 1151, 1151);
-}
-
-// A bit in the last block of the first half of the bytes that r is sampled from, and of the second.
-pub fn samples() {
+    values::product(576, 575, 1, 1, 1);
+    values::product(576, 575, 1, 575, 1);
+    values::product(1152, 1151, 1, 1151, 1);
     values::sampled(576, 98, 1);
     values::sampled(576, 168, 2);
     values::sampled(1152, 162, 1);
     values::sampled(1152, 319, 1);
+    trial::rows(66112, 576, 0);
+    trial::rows(4294967872, 576, 0);
+    trial::rows(0, 576, 0);
+    trial::rows(575, 576, 0);
+    trial::rows(768, 576, 0);
+    trial::rows(864, 576, 0);
+    values::product(576, 575, 0, 0, 3457);
+    values::product(576, 575, 3457, 0, 3457);
+    values::product(1152, 1151, 3456, 0, 3457);
+    values::product(1152, 1151, 3457, 0, 3457);
 }
 
-// Set numbers that are none. The second is 576 in its low 32 bits, the first in its low 16.
-pub fn sets() {
-    trial::unknown(66112);
-    trial::unknown(4294967872);
-    trial::unknown(0);
-    trial::unknown(575);
-    trial::unknown(768);
-    trial::unknown(864);
+// The first group above 3456 through all inputs, and a zero slot of g, of f and g, and of f alone.
+pub fn groups() {
+    let no = At(0, 0);
+    let last = At(863, 255);
+    let end = At(1727, 255);
+    let small = lending(576, 576, 9);
+    let large = lending(1152, 1152, 9);
+    trial::named(Call::OpenOne, small, At(1727, 255), no, no, 255, last);
+    trial::named(Call::OpenOne, small, no, no, no, 0, last);
+    trial::named(Call::OpenOne, large, At(3455, 255), no, no, 255, end);
+    trial::named(Call::OpenOne, large, no, no, no, 0, end);
+    trial::named(Call::Seal, small, At(11, 255), no, no, 0, no);
+    trial::named(Call::Seal, large, At(1727, 255), no, no, 0, no);
+    trial::named(Call::Make, small, At(144, 13), At(146, 1), no, 0, no);
+    trial::named(Call::Make, small, At(144, 13), At(146, 1), At(1, 31), 0, no);
+    trial::named(Call::Make, small, At(144, 1), At(1, 31), no, 0, no);
+    trial::named(Call::Make, large, At(288, 35), no, no, 0, no);
+    trial::named(Call::Make, large, At(288, 35), At(0, 123), At(1, 0), 0, no);
+    trial::named(Call::Make, large, At(288, 1), At(0, 123), At(1, 0), 0, no);
 }
 
-// The first number or group above 3456, through all inputs.
-pub fn places() {
-    refusals::product(576, 575, 0, 3457);
-    refusals::product(576, 575, 3457, 3457);
-    refusals::product(1152, 1151, 3456, 3457);
-    refusals::product(1152, 1151, 3457, 3457);
-    refusals::open_1(lend::right(576), 1727, 255, 255, 863);
-    refusals::open_1(lend::right(576), 0, 0, 0, 863);
-    refusals::open_1(lend::right(1152), 3455, 255, 255, 1727);
-    refusals::open_1(lend::right(1152), 0, 0, 0, 1727);
-    refusals::seal(lend::right(576), 11, 255);
-    refusals::seal(lend::right(1152), 1727, 255);
-}
-
-// A zero slot of g, of f and g, and of f alone.
-pub fn zero_slots() {
-    refusals::make(lend::right(576), 144, 13, 146, 1, 0, 0);
-    refusals::make(lend::right(576), 144, 13, 146, 1, 1, 31);
-    refusals::make(lend::right(576), 144, 1, 1, 31, 0, 0);
-    refusals::make(lend::right(1152), 288, 35, 0, 0, 0, 0);
-    refusals::make(lend::right(1152), 288, 35, 0, 123, 1, 0);
-    refusals::make(lend::right(1152), 288, 1, 0, 123, 1, 0);
-}
-
-// Marks above 2, and an H block with one bit of its last byte turned.
+// Marks above 2, an H block with one bit of its last byte turned, and two refusals that apply at once: the smaller number is answered.
 pub fn others() {
-    refusals::open_2(576, 5, 3, 9, 255);
-    refusals::open_2(1152, 1151, 3, 9, 2);
-    refusals::open_3(lend::right(576), 0, 0, 175, 128);
-    refusals::open_3(lend::right(1152), 0, 0, 319, 1);
-}
-
-// A buffer with one place more.
-fn lent(set: usize, n: usize, at: usize) -> Lent {
-    Lent {
-        set: set,
-        n: n,
-        at: at,
-        above: true,
-    }
-}
-
-// Two refusals that apply at once: the smaller number is answered.
-pub fn order() {
-    refusals::make(lent(768, 0, 9), 0, 0, 0, 0, 0, 0);
-    refusals::make(lent(576, 576, 1), 0, 0, 0, 0, 0, 0);
-    refusals::seal(lent(576, 576, 5), 11, 255);
-    refusals::open_1(lent(1152, 1152, 3), 3455, 255, 255, 1727);
-    refusals::open_3(lent(576, 576, 2), 863, 255, 175, 128);
-    refusals::open_3(lend::right(576), 863, 255, 175, 128);
-    refusals::open_3(lend::right(1152), 1727, 255, 319, 1);
+    let no = At(0, 0);
+    let turned = At(175, 128);
+    let end = At(1727, 255);
+    let small = lending(576, 576, 9);
+    let large = lending(1152, 1152, 9);
+    trial::named(Call::OpenTwo, small, At(5, 3), At(9, 255), no, 0, no);
+    trial::named(Call::OpenTwo, large, At(1151, 3), At(9, 2), no, 0, no);
+    trial::named(Call::OpenThree, small, no, no, no, 0, turned);
+    trial::named(Call::OpenThree, large, no, no, no, 0, At(319, 1));
+    trial::named(Call::Make, lending(768, 0, 9), no, no, no, 0, no);
+    trial::named(Call::Make, lending(576, 576, 4), no, no, no, 0, no);
+    trial::named(Call::Seal, lending(576, 576, 5), At(11, 255), no, no, 0, no);
+    trial::named(
+        Call::OpenOne,
+        lending(1152, 1152, 5),
+        At(3455, 255),
+        no,
+        no,
+        255,
+        end,
+    );
+    trial::named(
+        Call::OpenThree,
+        lending(576, 576, 4),
+        At(863, 255),
+        no,
+        no,
+        0,
+        turned,
+    );
+    trial::named(Call::OpenThree, small, At(863, 255), no, no, 0, turned);
+    trial::named(Call::OpenThree, large, end, no, no, 0, At(319, 1));
 }

@@ -2,17 +2,15 @@
 mod agreement;
 mod cases;
 mod lend;
-mod refusals;
-mod room;
-mod show;
 mod trial;
 mod values;
 
-// The unmarked bench values of document 01.
+// The unmarked bench values of document 01: all zero but for byte 32 of the H block, which makes r = 1, and each buffer one off.
 fn bench_values(set: usize) {
+    let none = trial::At(0, 0);
     agreement::make(set);
-    agreement::bench(set);
-    trial::lengths(set);
+    agreement::exchange(set, true, none, trial::At(32, 1), 0, none);
+    trial::rows(set, set, 6);
 }
 
 // The bench values of both sets, and the other cases.
@@ -20,12 +18,7 @@ fn main() {
     bench_values(576);
     bench_values(1152);
     cases::agreements();
-    cases::halves();
     cases::polynomials();
-    cases::samples();
-    cases::sets();
-    cases::places();
-    cases::zero_slots();
+    cases::groups();
     cases::others();
-    cases::order();
 }

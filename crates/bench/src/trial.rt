@@ -1,191 +1,109 @@
-// One call with inputs that are right. The outputs hold A5 before it.
+// One call, and whether its outputs are kept. They hold A5 before it.
 use crate::lend;
+use crate::lend::Call;
 use crate::lend::Lent;
-use crate::room;
-use crate::show;
-use answers::Answer;
-ghost use Prim.Native.Nat.{_≤_};
+use bench_rooms::room;
+use bench_rooms::show;
 
-// The nine calls whose row the table has.
-pub enum Call {
-    Product,
-    Transform,
-    Reverse,
-    Make,
-    RImage,
-    Seal,
-    OpenOne,
-    OpenTwo,
-    OpenThree,
-}
+// A place and the byte that is put there.
+pub struct At(pub usize, pub u8);
 
 // Prints the name of a call.
 fn name(call: Call) {
     match call {
-        Call::Product => show::text(b"product "),
-        Call::Transform => show::text(b"transform "),
-        Call::Reverse => show::text(b"reverse "),
-        Call::Make => show::text(b"make "),
-        Call::RImage => show::text(b"r-image "),
-        Call::Seal => show::text(b"seal "),
-        Call::OpenOne => show::text(b"open-1 "),
-        Call::OpenTwo => show::text(b"open-2 "),
-        Call::OpenThree => show::text(b"open-3 "),
+        Call::Product => show::text(b"product"),
+        Call::Transform => show::text(b"transform"),
+        Call::Reverse => show::text(b"reverse"),
+        Call::Make => show::text(b"make"),
+        Call::RImage => show::text(b"r-image"),
+        Call::Seal => show::text(b"seal"),
+        Call::OpenOne => show::text(b"open-1"),
+        Call::OpenTwo => show::text(b"open-2"),
+        Call::OpenThree => show::text(b"open-3"),
     }
 }
 
-// How many buffers the call's row of the table has.
-fn buffers(call: Call) -> usize
-    ensures { λ r. ⌜ r ≤ 6 ⌝ }
-{
-    match call {
-        Call::Product => 3,
-        Call::Transform => 2,
-        Call::Reverse => 2,
-        Call::Make => 3,
-        Call::RImage => 2,
-        Call::Seal => 6,
-        Call::OpenOne => 4,
-        Call::OpenTwo => 3,
-        Call::OpenThree => 3,
-    }
-}
-
-// A call on lists, whose inputs are ones.
-fn run_list(call: Call, lent: Lent) {
+// A call on lists of ones.
+fn lists(call: Call, lent: Lent) {
     let ones = room::numbers(1);
-    let mut list = room::numbers(42405);
-    let answer = answer_list(call, lent, &ones, &mut list);
-    show::outcome(answer, room::kept_list(&list));
+    let mut out = room::numbers(42405);
+    let answer = lend::on_lists(call, lent, &ones, &ones, &mut out);
+    show::outcome(answer, room::kept_list(&out));
 }
 
-// The answer of a call on lists.
-fn answer_list(call: Call, lent: Lent, ones: &[u16], list: &mut [u16]) -> Answer {
-    match call {
-        Call::Product => lend::product(lent, ones, ones, list),
-        Call::Transform => lend::transform(lent, ones, list),
-        _ => lend::reverse(lent, ones, list),
-    }
+// A call on bytes: the first input is zero but for three, the second has one byte value but for one, and the others are zero.
+pub fn bytes(call: Call, lent: Lent, one: At, two: At, three: At, fill: u8, last: At) {
+    let zeros = room::bytes(0);
+    let mut a = room::bytes(0);
+    room::put(&mut a, one.0, one.1);
+    room::put(&mut a, two.0, two.1);
+    room::put(&mut a, three.0, three.1);
+    let mut b = room::bytes(fill);
+    room::put(&mut b, last.0, last.1);
+    let mut out = room::bytes(165);
+    let mut other = room::bytes(165);
+    let answer = lend::on_bytes(call, lent, &a, &b, &zeros, &zeros, &mut out, &mut other);
+    show::outcome(answer, answers::both(room::kept(&out), room::kept(&other)));
 }
 
-// A call on bytes, whose inputs are zeros, but for a 1 where the second half of a seed block begins.
-fn run_bytes(call: Call, lent: Lent) {
-    let mut input = room::bytes(0);
-    room::put(&mut input, seed_place(call, lent), 1);
-    let mut first = room::bytes(165);
-    let mut second = room::bytes(165);
-    let answer = answer_bytes(call, lent, &input, &mut first, &mut second);
-    show::outcome(
-        answer,
-        answers::both(room::kept(&first), room::kept(&second)),
-    );
-}
-
-// Where the input is not zero: for other calls than make behind the end of the room.
-fn seed_place(call: Call, lent: Lent) -> usize {
-    match call {
-        Call::Make => lent.n / 4,
-        _ => 3457,
-    }
-}
-
-// The answer of a call on bytes.
-fn answer_bytes(
-    call: Call,
-    lent: Lent,
-    input: &[u8],
-    first: &mut [u8],
-    second: &mut [u8],
-) -> Answer {
-    match call {
-        Call::Make => lend::make(lent, input, first, second),
-        Call::RImage => lend::r_image(lent, input, first),
-        Call::Seal => lend::seal(lent, input, input, input, input, first, second),
-        Call::OpenOne => lend::open_1(lent, input, input, first, second),
-        Call::OpenTwo => lend::open_2(lent, input, input, first),
-        _ => lend::open_3(lent, input, input, first),
-    }
-}
-
-// Prints the answer, and whether all outputs are kept.
-fn run(call: Call, lent: Lent) {
-    match call {
-        Call::Product => run_list(call, lent),
-        Call::Transform => run_list(call, lent),
-        Call::Reverse => run_list(call, lent),
-        _ => run_bytes(call, lent),
-    }
-}
-
-// With the lengths of the set 576 or 1152, and any set number.
-fn whole(call: Call, set: usize, n: usize) {
+// The same, with the name of the call before it.
+pub fn named(call: Call, lent: Lent, one: At, two: At, three: At, fill: u8, last: At) {
     name(call);
-    show::number(set);
-    show::text(b": ");
-    run(
-        call,
-        Lent {
-            set: set,
-            n: n,
-            at: 9,
-            above: false,
-        },
-    );
+    bytes(call, lent, one, two, three, fill, last);
 }
 
-// One buffer with one place less or more, the others right.
-fn side(call: Call, set: usize, at: usize, above: bool) {
+// A call with inputs that are right, with its name, the set number, and the buffer that is one off.
+fn attempt(call: Call, lent: Lent, buffer: usize) {
     name(call);
-    show::number(set);
-    show::text(b" buffer ");
-    show::number(at);
-    if above {
-        show::text(b" +1: ");
-    } else {
-        show::text(b" -1: ");
+    show::text(b" ");
+    show::number(lent.set);
+    if lent.at < 6 {
+        show::text(b" buffer ");
+        show::number(buffer);
+        if lent.above {
+            show::text(b" +1");
+        } else {
+            show::text(b" -1");
+        }
     }
-    run(
-        call,
-        Lent {
-            set: set,
-            n: set,
-            at: at,
-            above: above,
-        },
-    );
-}
-
-// The call with the right lengths, and then with each that is one off.
-fn lengths_of(call: Call, set: usize) {
-    whole(call, set, set);
-    for at in 0..buffers(call) {
-        side(call, set, at, false);
-        side(call, set, at, true);
+    let none = At(0, 0);
+    match call {
+        Call::Product => lists(call, lent),
+        Call::Transform => lists(call, lent),
+        Call::Reverse => lists(call, lent),
+        Call::Make => bytes(call, lent, At(lent.n / 4, 1), none, none, 0, none),
+        _ => bytes(call, lent, none, none, none, 0, none),
     }
 }
 
-// All calls.
-pub fn lengths(set: usize) {
-    lengths_of(Call::Product, set);
-    lengths_of(Call::Transform, set);
-    lengths_of(Call::Reverse, set);
-    lengths_of(Call::Make, set);
-    lengths_of(Call::RImage, set);
-    lengths_of(Call::Seal, set);
-    lengths_of(Call::OpenOne, set);
-    lengths_of(Call::OpenTwo, set);
-    lengths_of(Call::OpenThree, set);
+// The call with the right lengths, and then with each of its buffers one off.
+fn row(call: Call, set: usize, n: usize, buffers: usize) {
+    attempt(call, lend::lending(set, n, 9), 0);
+    let mut buffer = 0;
+    for at in 0..buffers {
+        if 0 < lend::length(call, lend::lending(set, n, 9), at) {
+            let below = Lent {
+                set: set,
+                n: n,
+                at: at,
+                above: false,
+            };
+            attempt(call, below, buffer);
+            attempt(call, lend::lending(set, n, at), buffer);
+            buffer = buffer % 6 + 1;
+        }
+    }
 }
 
-// A set number that is not one, with lengths that would be right.
-pub fn unknown(set: usize) {
-    whole(Call::Product, set, 576);
-    whole(Call::Transform, set, 576);
-    whole(Call::Reverse, set, 576);
-    whole(Call::Make, set, 576);
-    whole(Call::RImage, set, 576);
-    whole(Call::Seal, set, 576);
-    whole(Call::OpenOne, set, 576);
-    whole(Call::OpenTwo, set, 576);
-    whole(Call::OpenThree, set, 576);
+// All calls with the lengths for n: with 6 also with each buffer one off, with 0 not.
+pub fn rows(set: usize, n: usize, buffers: usize) {
+    row(Call::Product, set, n, buffers);
+    row(Call::Transform, set, n, buffers);
+    row(Call::Reverse, set, n, buffers);
+    row(Call::Make, set, n, buffers);
+    row(Call::RImage, set, n, buffers);
+    row(Call::Seal, set, n, buffers);
+    row(Call::OpenOne, set, n, buffers);
+    row(Call::OpenTwo, set, n, buffers);
+    row(Call::OpenThree, set, n, buffers);
 }

@@ -1,56 +1,80 @@
 // Products, images and sampled polynomials.
 use crate::lend;
-use crate::room;
-use crate::show;
+use crate::lend::Call;
+use bench_rooms::room;
+use bench_rooms::show;
 
 // The image of x: its first five slots and the last.
 pub fn image_of_x(set: usize, last: usize) {
+    let lent = lend::lending(set, set, 9);
     let mut x = room::numbers(0);
-    x[1] = 1;
+    room::put_number(&mut x, 1, 1);
     let mut image = room::numbers(42405);
-    show::text(b"transform x: ");
-    show::answer(lend::transform(lend::right(set), &x, &mut image));
-    show::terms(room::list(&image, 5));
-    show::number_at(&image, last);
+    let answer = lend::on_lists(Call::Transform, lent, &x, &x, &mut image);
+    show::answer(b"transform x: ", answer);
+    show::text(b"\n");
+    show::terms(room::list(&image, 5), 0);
+    show::terms(room::list(&image, set), last);
 }
 
 // The list 0, 1, .. to its image and back: how many numbers from the start on are as they were.
 pub fn back(set: usize) {
+    let lent = lend::lending(set, set, 9);
     let mut list = room::numbers(0);
     room::ramp(&mut list);
     let mut image = room::numbers(42405);
     let mut back = room::numbers(42405);
-    show::text(b"transform: ");
-    show::answer(lend::transform(lend::right(set), &list, &mut image));
-    show::text(b"reverse: ");
-    show::answer(lend::reverse(lend::right(set), &image, &mut back));
+    let answer = lend::on_lists(Call::Transform, lent, &list, &list, &mut image);
+    show::answer(b"transform: ", answer);
+    let second = lend::on_lists(Call::Reverse, lent, &image, &image, &mut back);
+    show::answer(b"\nreverse: ", second);
+    show::text(b"\n");
     show::number(room::agreeing(room::list(&list, set), room::list(&back, set)));
     show::text(b"\n");
 }
 
-// The product of two powers of x.
-pub fn product(set: usize, i: usize, j: usize) {
+// The product of two lists that are zero but for one number each: that it is kept, or its terms.
+pub fn product(set: usize, i: usize, number: u16, j: usize, other: u16) {
+    let lent = lend::lending(set, set, 9);
     let mut a = room::numbers(0);
-    room::put_number(&mut a, i, 1);
+    room::put_number(&mut a, i, number);
     let mut b = room::numbers(0);
-    room::put_number(&mut b, j, 1);
+    room::put_number(&mut b, j, other);
     let mut out = room::numbers(42405);
-    show::text(b"product: ");
-    show::answer(lend::product(lend::right(set), &a, &b, &mut out));
-    show::terms(room::list(&out, set));
+    let answer = lend::on_lists(Call::Product, lent, &a, &b, &mut out);
+    show::answer(b"product: ", answer);
+    if room::kept_list(&out) {
+        show::text(b" kept\n");
+    } else {
+        show::text(b"\n");
+        show::terms(room::list(&out, set), 0);
+    }
 }
 
 // The r that an H block with one byte gives, as the reverse of its image.
 pub fn sampled(set: usize, at: usize, byte: u8) {
+    let lent = lend::lending(set, set, 9);
     let mut hblock = room::bytes(0);
     room::put(&mut hblock, at, byte);
     let mut packed = room::bytes(165);
+    let mut none = room::bytes(165);
     let mut image = room::numbers(42405);
     let mut r = room::numbers(42405);
-    show::text(b"r-image: ");
-    show::answer(lend::r_image(lend::right(set), &hblock, &mut packed));
+    let zeros = room::bytes(0);
+    let answer = lend::on_bytes(
+        Call::RImage,
+        lent,
+        &hblock,
+        &zeros,
+        &zeros,
+        &zeros,
+        &mut packed,
+        &mut none,
+    );
+    show::answer(b"r-image: ", answer);
     room::unpack(&packed, &mut image);
-    show::text(b"r: ");
-    show::answer(lend::reverse(lend::right(set), &image, &mut r));
-    show::terms(room::list(&r, set));
+    let second = lend::on_lists(Call::Reverse, lent, &image, &image, &mut r);
+    show::answer(b"\nr: ", second);
+    show::text(b"\n");
+    show::terms(room::list(&r, set), 0);
 }
