@@ -138,10 +138,10 @@ pub fn repeat(room: &mut [u8], first: u8, second: u8) {
     }
 }
 
-// The numbers 0, 1, .., 3456, again and again.
+// The numbers 0, 1, .., 1152, again and again.
 pub fn ramp(room: &mut [u16]) {
     for i in 0..room.len() {
-        room[i] = (i % 3457) as u16;
+        room[i] = (i % 1153) as u16;
     }
 }
 
