@@ -64,9 +64,9 @@ pub fn on_lists(call: Call, lent: Lent, a: &[u16], b: &[u16], out: &mut [u16]) -
     let second = room::list(b, length(call, lent, 1));
     let result = room::list_mut(out, length(call, lent, 4));
     match call {
-        Call::Product => calls::product::product(lent.set, first, second, result),
-        Call::Transform => calls::transform::transform(lent.set, first, result),
-        _ => calls::reverse::reverse(lent.set, first, result),
+        Call::Product => calls_product::product(lent.set, first, second, result),
+        Call::Transform => calls_transforms::transform::transform(lent.set, first, result),
+        _ => calls_transforms::reverse::reverse(lent.set, first, result),
     }
 }
 

@@ -46,11 +46,11 @@ fn open_3_in(
     if at < lent.len() {
         return Answer::TooLarge(at);
     }
-    stages::sealing::r_image(half, step, hblock, powers, r);
+    stages_seal::r_image(half, step, hblock, powers, r);
     if !slotwise::same(lent, r) {
         return Answer::Differs;
     }
-    stages::sealing::copy_key(hblock, key);
+    stages_seal::copy_key(hblock, key);
     Answer::Done
 }
 

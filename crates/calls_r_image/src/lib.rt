@@ -23,7 +23,7 @@ fn r_image_in(
     requires { ⌜ (length (now r) ≡ half + half) × (length (now image) ≡ 3 * half) ⌝ }
     ensures { λ _. ⌜ now (image .exit) ≡ packed (rImage half (powq generator step) (now (hblock .entry))) ⌝ }
 {
-    stages::sealing::r_image(half, step, hblock, powers, r);
+    stages_seal::r_image(half, step, hblock, powers, r);
     packing::pack(r, image);
 }
 

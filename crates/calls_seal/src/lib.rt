@@ -10,7 +10,9 @@ ghost use lib.Dec.{eqb};
 ghost use lib.ListN.{length};
 ghost use Rattle.residue.specs.Field.{generator, powq};
 ghost use Rattle.packing.specs.Packing.{groups};
+ghost use Rattle.answers.specs.declared.SetChoice.the-variants.{Known};
 ghost use Rattle.answers.specs.Replies.{reply, leaves, Outcome};
+ghost use Rattle.answers.specs.Sets.{setOf};
 ghost use Rattle.answers.specs.Tests.{inRange};
 ghost use Rattle.slots.specs.Ready.{Ready};
 ghost use Rattle.stages.specs.Sealing.{keyBytes, ciphertext};
@@ -64,10 +66,47 @@ fn seal_in(
     if at < h.len() {
         return Answer::TooLarge(at);
     }
-    stages::sealing::sealed_image(half, step, h, message, hblock, gblock, powers, p, r, c);
+    stages_seal::sealed_image(half, step, h, message, hblock, gblock, powers, p, r, c);
     packing::pack(c, cipher);
-    stages::sealing::copy_key(hblock, key);
+    stages_seal::copy_key(hblock, key);
     Answer::Done
+}
+
+// Where the set is known and each buffer has its length: the rooms, lent.
+fn seal_known(
+    s: Parameters,
+    public: &[u8],
+    message: &[u8],
+    hblock: &[u8],
+    gblock: &[u8],
+    cipher: &mut [u8],
+    key: &mut [u8],
+) -> Answer
+    requires { ⌜ setOf (s .n) ≡ Known s ⌝ }
+    requires { ⌜ (length (now public) ≡ s .packed) × (length (now message) ≡ s .message) × (length (now hblock) ≡ s .hblock) × (length (now gblock) ≡ s .gblock) × (length (now cipher) ≡ s .packed) × (length (now key) ≡ s .key) ⌝ }
+    ensures { λ r. ⌜ Outcome (inRange (groups (now (public .entry)) ∷ []) (reply 0 0)) r (λ R. (now (cipher .exit) ≡ leaves R (ciphertext (s .half) (powq generator (s .step)) (now (public .entry)) (now (message .entry)) (now (hblock .entry)) (now (gblock .entry))) (now (cipher .entry))) × (now (key .exit) ≡ leaves R (keyBytes (now (hblock .entry))) (now (key .entry)))) ⌝ }
+{
+    let n = s.n;
+    let powers = powers::powers();
+    let mut h = rooms::numbers();
+    let mut p = rooms::numbers();
+    let mut r = rooms::numbers();
+    let mut c = rooms::numbers();
+    seal_in(
+        s.half,
+        s.step,
+        public,
+        message,
+        hblock,
+        gblock,
+        &powers,
+        &mut h[..n],
+        &mut p[..n],
+        &mut r[..n],
+        &mut c[..n],
+        cipher,
+        key,
+    )
 }
 
 pub fn seal(
@@ -95,27 +134,7 @@ pub fn seal(
             ) {
                 return Answer::WrongLength;
             }
-            let n = s.n;
-            let powers = powers::powers();
-            let mut h = rooms::numbers();
-            let mut p = rooms::numbers();
-            let mut r = rooms::numbers();
-            let mut c = rooms::numbers();
-            seal_in(
-                s.half,
-                s.step,
-                public,
-                message,
-                hblock,
-                gblock,
-                &powers,
-                &mut h[..n],
-                &mut p[..n],
-                &mut r[..n],
-                &mut c[..n],
-                cipher,
-                key,
-            )
+            seal_known(s, public, message, hblock, gblock, cipher, key)
         }
     }
 }

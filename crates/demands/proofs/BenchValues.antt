@@ -21,8 +21,8 @@ use Rattle.small.specs.Encoding.{xor, encodeBit, decodeBit}
 use Rattle.packing.specs.Packing.{threeBytes, packed, twoGroups, groups}
 use Rattle.answers.specs.Sets.{parametersOf, setOf, forSet}
 use Rattle.answers.specs.Tests.{atFirst, inRange}
-use Rattle.calls.specs.Product.{productOf}
-use Rattle.calls.specs.Transform.{transformOf}
+use Rattle.calls_product.specs.Product.{productOf}
+use Rattle.calls_transforms.specs.Transform.{transformOf}
 use Rattle.lists.proofs.TabLaws.{getD-tab, tab-cong}
 use Rattle.algebra.proofs.Monomials.{product-below, product-middle, product-top, image-monomial}
 use Rattle.bits.proofs.Blocks.{total, blocks-576}

@@ -9,9 +9,9 @@ use Rattle.answers.specs.declared.Answer.{Answer}
 use Rattle.answers.specs.Answers.{numberOf, placeOf}
 use Rattle.answers.specs.Replies.{reply}
 use Rattle.answers.specs.Sets.{parametersOf}
-use Rattle.calls.specs.Product.{productReply, Product}
-use Rattle.calls.specs.Transform.{listReply, Transform}
-use Rattle.calls.specs.Reverse.{Reverse}
+use Rattle.calls_product.specs.Product.{productReply, Product}
+use Rattle.calls_transforms.specs.Transform.{listReply, Transform}
+use Rattle.calls_transforms.specs.Reverse.{Reverse}
 use Rattle.calls_make.specs.Make.{makeReply, Make}
 use Rattle.calls_r_image.specs.RImage.{rImageReply, RImage}
 use Rattle.calls_seal.specs.Seal.{sealReply, Seal}

@@ -16,9 +16,9 @@ use Rattle.answers.specs.declared.Parameters.{Parameters}
 use Rattle.answers.specs.declared.SetChoice.{SetChoice}
 use Rattle.answers.specs.declared.SetChoice.the-variants.{Known, Unknown}
 use Rattle.answers.specs.Sets.{setOf, forSet}
-use Rattle.calls.specs.Product.{productOf}
-use Rattle.calls.specs.Transform.{transformOf}
-use Rattle.calls.specs.Reverse.{reverseOf}
+use Rattle.calls_product.specs.Product.{productOf}
+use Rattle.calls_transforms.specs.Transform.{transformOf}
+use Rattle.calls_transforms.specs.Reverse.{reverseOf}
 use Rattle.algebra.proofs.Sets.{root-turn, root-order}
 use Rattle.algebra.proofs.Theorems.{reverse-times}
 use Rattle.answers.proofs.SetLaws.{IsSet, known-set}

@@ -4,9 +4,9 @@ use mathlib.Core.List.{List}
 use mathlib.Core.Path.{_≡_, sym, _∙_}
 use Prim.Native.Nat.{ℕ}
 use Rattle.answers.specs.declared.Answer.{Answer}
-use Rattle.calls.specs.Product.{Product}
-use Rattle.calls.specs.Transform.{Transform}
-use Rattle.calls.specs.Reverse.{Reverse}
+use Rattle.calls_product.specs.Product.{Product}
+use Rattle.calls_transforms.specs.Transform.{Transform}
+use Rattle.calls_transforms.specs.Reverse.{Reverse}
 use Rattle.calls_make.specs.Make.{Make}
 use Rattle.calls_halves.specs.Halves.{FHalf, HHalf}
 use Rattle.calls_r_image.specs.RImage.{RImage}

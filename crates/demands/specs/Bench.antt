@@ -18,8 +18,8 @@ use Rattle.small.specs.Encoding.{encodeBit, decodeBit}
 use Rattle.packing.specs.Packing.{packed, groups}
 use Rattle.answers.specs.Replies.{reply}
 use Rattle.answers.specs.Tests.{inRange}
-use Rattle.calls.specs.Product.{productOf}
-use Rattle.calls.specs.Transform.{transformOf}
+use Rattle.calls_product.specs.Product.{productOf}
+use Rattle.calls_transforms.specs.Transform.{transformOf}
 
 -- in set 576, whose runs are 72 bytes: bit b of byte i goes to place p, whatever the bytes are
 unfoldable pub Goes : ℕ → ℕ → ℕ → Type 0

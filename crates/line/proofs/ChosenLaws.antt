@@ -10,12 +10,12 @@ use Rattle.algebra.specs.Numbers.{residues}
 use Rattle.algebra.specs.Product.{product}
 use Rattle.answers.specs.declared.Answer.{Answer}
 use Rattle.answers.specs.Answers.{numberOf, placeOf}
-use Rattle.calls.specs.Product.{productOf, Product}
+use Rattle.calls_product.specs.Product.{productOf, Product}
 use Rattle.lines.specs.Output.{productLines}
 use Rattle.algebra.proofs.Lists.{product-residues}
 use Rattle.answers.proofs.Exits.{for-known}
 use Rattle.answers.proofs.SetLaws.{IsSet, known-set}
-use Rattle.calls.proofs.Products.{product-done}
+use Rattle.calls_product.proofs.Products.{product-done}
 use Rattle.lines.proofs.InputLaws.{set-small}
 use Rattle.lines.proofs.OutputLaws.{product-short}
 use Rattle.line.specs.Chosen.{Chosen}

@@ -9,7 +9,7 @@ use lib.ListN.{length}
 use borrow.Author.Tests.{lt-ltb, le-ltb, eq-eqb, ne-eqb}
 use Rattle.answers.specs.declared.SetChoice.the-variants.{Unknown}
 use Rattle.answers.specs.Sets.{setOf, forSet}
-use Rattle.calls.specs.Product.{productOf}
+use Rattle.calls_product.specs.Product.{productOf}
 use Rattle.text.specs.declared.Number.the-variants.{Is, NotNumber}
 use Rattle.text.specs.Lines.{lf, past}
 use Rattle.lines.specs.Input.{setIn, polynomialIn, forNumber}

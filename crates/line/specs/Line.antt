@@ -7,7 +7,7 @@ use Prim.Native.Nat.{ℕ}
 use lib.Dec.{eqb, ltb}
 use lib.ListN.{length}
 use Rattle.answers.specs.Sets.{setOf, forSet}
-use Rattle.calls.specs.Product.{productOf}
+use Rattle.calls_product.specs.Product.{productOf}
 use Rattle.text.specs.Lines.{lf, past}
 use Rattle.print.specs.Write.{Writes}
 use Rattle.lines.specs.Input.{setIn, polynomialIn, forNumber}

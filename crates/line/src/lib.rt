@@ -38,7 +38,7 @@ fn after_first(
     if more.len() > 0 {
         return put_answer(Answer::Malformed(4), out);
     }
-    let answer = calls::product::product(set, a, b, c);
+    let answer = calls_product::product(set, a, b, c);
     put_lines(answer, set, c, out)
 }
 

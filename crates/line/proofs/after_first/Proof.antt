@@ -10,7 +10,7 @@ use lib.ListN.{length}
 use denote.Ref.{now}
 use borrow.Author.Tests.{not-true, not-false}
 use Rattle.answers.specs.Answers.{numberOf, placeOf}
-use Rattle.calls.specs.Product.{productOf}
+use Rattle.calls_product.specs.Product.{productOf}
 use Rattle.text.specs.Lines.{lf, past}
 use Rattle.text.specs.Polynomials.{Reads}
 use Rattle.lines.specs.Input.{polynomialIn}

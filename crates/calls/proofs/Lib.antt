@@ -1,3 +1,0 @@
-pub mod Lengths
-pub mod Products
-pub mod Tested

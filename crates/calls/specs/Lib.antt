@@ -1,4 +1,0 @@
-pub mod Product
-pub mod Transform
-pub mod Reverse
-pub mod Tests

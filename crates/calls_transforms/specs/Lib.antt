@@ -1,0 +1,3 @@
+pub mod Transform
+pub mod Reverse
+pub mod Tests
