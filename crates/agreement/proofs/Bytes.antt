@@ -13,14 +13,15 @@ use Rattle.algebra.specs.Roots.{IsRoot}
 use Rattle.algebra.specs.SlotBySlot.{inverses}
 use Rattle.marks.specs.Marks.{markOf, Smalls}
 use Rattle.small.specs.Sampling.{firstHalf, secondHalf}
-use Rattle.small.specs.Encoding.{encoded, decoded}
+use Rattle.encoding.specs.Encoding.{encoded, decoded}
 use Rattle.packing.specs.Packing.{packed, groups}
 use Rattle.stages.specs.Making.{smallF, smallG, fImage, hImage, publicKey, privateKey}
 use Rattle.stages.specs.Sealing.{smallR, rImage, sealedImage, ciphertext}
 use Rattle.stages.specs.Opening.{openedM, openedR, openedMarks, openedImage, openedMessage}
 use Rattle.algebra.proofs.Lists.{plus-residues, inverses-residues}
 use Rattle.marks.proofs.MarkLaws.{markOf-lt, map-ofMark-markOf}
-use Rattle.small.proofs.SmallLaws.{length-sampled, length-encoded, smalls-sampled, smalls-encoded, decoded-encoded}
+use Rattle.small.proofs.SmallLaws.{length-sampled, smalls-sampled}
+use Rattle.encoding.proofs.EncodingLaws.{length-encoded, smalls-encoded, decoded-encoded}
 use Rattle.packing.proofs.PackingLaws.{length-packed, unpack-pack}
 use Rattle.agreement.specs.Opened.{opened, InRange, Pair}
 use Rattle.agreement.proofs.Slots.{fImage-residues, hImage-residues}

@@ -14,8 +14,8 @@ use Rattle.algebra.specs.Product.{product}
 use Rattle.algebra.specs.Roots.{IsRoot}
 use Rattle.algebra.specs.SlotBySlot.{times, inverses}
 use Rattle.algebra.specs.Transform.{image}
-use Rattle.stages.specs.Images.{imageOf}
-use Rattle.stages.specs.Making.{tripled, plusOne, fImage, gImage, hImage}
+use Rattle.stages.specs.Images.{tripled, plusOne, imageOf}
+use Rattle.stages.specs.Making.{fImage, gImage, hImage}
 use Rattle.stages.specs.Sealing.{sealedImage}
 use Rattle.lists.proofs.TabLaws.{getD-tab}
 use Rattle.residue.proofs.SignedLaws.{residueOf-add, residueOf-mul}

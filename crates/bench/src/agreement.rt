@@ -1,44 +1,41 @@
 // Key making, sealing and opening, with the pair of the bench values.
-use crate::lend;
-use crate::lend::Call;
-use crate::trial;
-use crate::trial::At;
+use crate::lengths::Lengths;
 use answers::Answer;
 use bench_rooms::room;
+use bench_rooms::room::At;
+use bench_rooms::room::part;
+use bench_rooms::room::part_mut;
 use bench_rooms::show;
 
-// The bench pair: its seed block is zero but for a 1 where the second half begins.
-fn pair(set: usize, public: &mut [u8], private: &mut [u8]) -> Answer {
+// The pair of a seed block that is zero but for the byte where its second half begins: with 1 the bench pair.
+fn pair(l: Lengths, byte: u8, public: &mut [u8], private: &mut [u8]) -> Answer {
     let mut seed = room::bytes(0);
-    room::put(&mut seed, set / 4, 1);
-    let lent = lend::lending(set, set, 9);
-    lend::on_bytes(
-        Call::Make,
-        lent,
-        &seed,
-        &seed,
-        &seed,
-        &seed,
-        public,
-        private,
+    room::put(&mut seed, At(l.seed / 2, byte));
+    calls_make::make(
+        l.n,
+        part(&seed, l.seed),
+        part_mut(public, l.packed),
+        part_mut(private, l.private),
     )
 }
 
 // The seed block of zeros, and the bench pair.
-pub fn make(set: usize) {
-    let lent = lend::lending(set, set, 9);
-    let none = At(0, 0);
+pub fn make(l: Lengths) {
     let mut public = room::bytes(165);
     let mut private = room::bytes(165);
+    let zeros = pair(l, 0, &mut public, &mut private);
     show::text(b"make zeros");
-    trial::bytes(Call::Make, lent, none, none, none, 0, none);
+    show::outcome(
+        zeros,
+        answers::both(room::kept(&public), room::kept(&private)),
+    );
     show::text(b"make byte ");
-    show::number(set / 4);
-    show::answer(b": ", pair(set, &mut public, &mut private));
+    show::number(l.seed / 2);
+    show::answer(b": ", pair(l, 1, &mut public, &mut private));
     show::text(b"\npublic: ");
-    show::periods(room::part(&public, lend::length(Call::Make, lent, 4)), 3);
+    show::periods(part(&public, l.packed), 3);
     show::text(b"\nprivate: ");
-    halves(set, room::part(&private, lend::length(Call::Make, lent, 5)));
+    halves(l.n, part(&private, l.private));
 }
 
 // The halves of a private key.
@@ -53,12 +50,38 @@ fn halves(set: usize, key: &[u8]) {
 pub fn full_halves(set: usize, length: usize) {
     let room = room::bytes(255);
     show::text(b"halves: ");
-    halves(set, room::part(&room, length));
+    halves(set, part(&room, length));
 }
 
-// Seals, and prints the ciphertext and the key. Or the ciphertext is 2 in all slots, which no encoding with a zero G block and r = 1 gives.
+// Seals, and prints the ciphertext and the key.
 fn seal(
-    set: usize,
+    l: Lengths,
+    public: &[u8],
+    message: &[u8],
+    hblock: &[u8],
+    gblock: &[u8],
+    cipher: &mut [u8],
+) {
+    let mut key = room::bytes(165);
+    let answer = calls_seal::seal(
+        l.n,
+        part(public, l.packed),
+        part(message, l.message),
+        part(hblock, l.hblock),
+        part(gblock, l.gblock),
+        part_mut(cipher, l.packed),
+        part_mut(&mut key, 32),
+    );
+    show::answer(b"seal: ", answer);
+    show::text(b"\ncipher: ");
+    show::periods(part(cipher, l.packed), 3);
+    show::text(b"\nkey: ");
+    show::places(part(&key, 32));
+}
+
+// Seals. Or the ciphertext is 2 in all slots, which no encoding with a zero G block and r = 1 gives.
+fn sealed_or_twos(
+    l: Lengths,
     sealed: bool,
     public: &[u8],
     message: &[u8],
@@ -67,99 +90,74 @@ fn seal(
     cipher: &mut [u8],
 ) {
     if sealed {
-        let lent = lend::lending(set, set, 9);
-        let mut key = room::bytes(165);
-        let answer = lend::on_bytes(
-            Call::Seal,
-            lent,
-            public,
-            message,
-            hblock,
-            gblock,
-            cipher,
-            &mut key,
-        );
-        show::answer(b"\nseal: ", answer);
-        show::text(b"\ncipher: ");
-        show::periods(room::part(cipher, lend::length(Call::Seal, lent, 4)), 3);
-        show::text(b"\nkey: ");
-        show::places(room::part(&key, 32));
+        seal(l, public, message, hblock, gblock, cipher);
     } else {
-        show::text(b"\n");
         room::repeat(cipher, 2, 32);
     }
 }
 
 // Opens a ciphertext that an H block and a G block belong to: the marks and the packed image of r, and the later stages.
-fn open(set: usize, private: &[u8], cipher: &[u8], hblock: &[u8], gblock: &[u8]) {
-    let lent = lend::lending(set, set, 9);
+fn open(l: Lengths, private: &[u8], cipher: &[u8], hblock: &[u8], gblock: &[u8]) {
     let mut marks = room::bytes(165);
     let mut image = room::bytes(165);
-    let answer = lend::on_bytes(
-        Call::OpenOne,
-        lent,
-        private,
-        cipher,
-        cipher,
-        cipher,
-        &mut marks,
-        &mut image,
+    let answer = calls_open_1::open_1(
+        l.n,
+        part(private, l.private),
+        part(cipher, l.packed),
+        part_mut(&mut marks, l.n),
+        part_mut(&mut image, l.packed),
     );
     show::answer(b"open-1: ", answer);
     show::text(b"\nmarks: ");
-    show::places(room::part(&marks, set));
+    show::places(part(&marks, l.n));
     show::text(b"image: ");
-    show::periods(room::part(&image, lend::length(Call::OpenOne, lent, 5)), 3);
-    later(set, &marks, &image, hblock, gblock);
+    show::periods(part(&image, l.packed), 3);
+    open_message(l, &marks, gblock);
+    open_key(l, &image, hblock);
 }
 
-// The second stage of opening and the third: the message and the key.
-fn later(set: usize, marks: &[u8], image: &[u8], hblock: &[u8], gblock: &[u8]) {
-    let lent = lend::lending(set, set, 9);
-    let mut none = room::bytes(165);
-    let mut out = room::bytes(165);
-    let answer = lend::on_bytes(
-        Call::OpenTwo,
-        lent,
-        marks,
-        gblock,
-        gblock,
-        gblock,
-        &mut out,
-        &mut none,
+// The second stage of opening.
+fn open_message(l: Lengths, marks: &[u8], gblock: &[u8]) {
+    let mut message = room::bytes(165);
+    let answer = calls_open_2::open_2(
+        l.n,
+        part(marks, l.n),
+        part(gblock, l.gblock),
+        part_mut(&mut message, l.message),
     );
     show::answer(b"\nopen-2: ", answer);
     show::text(b"\nmessage: ");
-    show::places(room::part(&out, set / 8));
+    show::places(part(&message, l.message));
+}
+
+// The third.
+fn open_key(l: Lengths, image: &[u8], hblock: &[u8]) {
     let mut key = room::bytes(165);
-    let third = lend::on_bytes(
-        Call::OpenThree,
-        lent,
-        image,
-        hblock,
-        hblock,
-        hblock,
-        &mut key,
-        &mut none,
+    let answer = calls_open_3::open_3(
+        l.n,
+        part(image, l.packed),
+        part(hblock, l.hblock),
+        part_mut(&mut key, 32),
     );
-    show::answer(b"open-3: ", third);
+    show::answer(b"open-3: ", answer);
     show::text(b"\nkey: ");
-    show::places(room::part(&key, 32));
+    show::places(part(&key, 32));
 }
 
 // Seals and opens. All is zero but for a byte of the message, of the H block and of the G block, and the first key bytes, which count from 1 on.
-pub fn exchange(set: usize, sealed: bool, message: At, hblock: At, keys: usize, gblock: At) {
+pub fn exchange(l: Lengths, sealed: bool, message: At, hblock: At, keys: usize, gblock: At) {
     let mut m = room::bytes(0);
-    room::put(&mut m, message.0, message.1);
+    room::put(&mut m, message);
     let mut h = room::bytes(0);
-    room::put(&mut h, hblock.0, hblock.1);
+    room::put(&mut h, hblock);
     room::count_up(&mut h, keys);
     let mut g = room::bytes(0);
-    room::put(&mut g, gblock.0, gblock.1);
+    room::put(&mut g, gblock);
     let mut public = room::bytes(165);
     let mut private = room::bytes(165);
     let mut cipher = room::bytes(165);
-    show::answer(b"make: ", pair(set, &mut public, &mut private));
-    seal(set, sealed, &public, &m, &h, &g, &mut cipher);
-    open(set, &private, &cipher, &h, &g);
+    show::answer(b"make: ", pair(l, 1, &mut public, &mut private));
+    show::text(b"\n");
+    sealed_or_twos(l, sealed, &public, &m, &h, &g, &mut cipher);
+    open(l, &private, &cipher, &h, &g);
 }

@@ -53,10 +53,14 @@ pub fn list_mut(room: &mut [u16], n: usize) -> &mut [u16] {
     }
 }
 
+// A place and the byte that is put there.
+pub struct At(pub usize, pub u8);
+
 // Stores a byte, if the room has the place.
-pub fn put(room: &mut [u8], at: usize, byte: u8) {
-    if at < room.len() {
-        room[at] = byte;
+pub fn put(room: &mut [u8], at: At) {
+    let place = at.0;
+    if place < room.len() {
+        room[place] = at.1;
     }
 }
 

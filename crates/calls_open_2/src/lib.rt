@@ -40,7 +40,7 @@ fn open_2_in(
     if at < marks.len() {
         return Answer::BadMark(at);
     }
-    small::decode(marks, gblock, bits, halves, message);
+    encoding::decode(marks, gblock, bits, halves, message);
     Answer::Done
 }
 

@@ -8,8 +8,8 @@ use lib.ListN.{length, length-map}
 use Rattle.lists.specs.Below.{Below}
 use Rattle.residue.specs.Residues.{Residues}
 use Rattle.marks.specs.Marks.{markOf}
-use Rattle.small.specs.Encoding.{encoded}
 use Rattle.small.specs.Sampling.{firstHalf, secondHalf}
+use Rattle.encoding.specs.Encoding.{encoded}
 use Rattle.packing.specs.Packing.{packed, groups}
 use Rattle.answers.specs.declared.Parameters.{Parameters}
 use Rattle.answers.specs.declared.SetChoice.the-variants.{Known}
@@ -23,7 +23,7 @@ use Rattle.agreement.specs.Opened.{opened, InRange}
 use Rattle.calls_open_1.specs.OpenOne.{marksOf, openedImageOf, OpenOne}
 use Rattle.calls_open_2.specs.OpenTwo.{OpenTwo}
 use Rattle.calls_open_3.specs.OpenThree.{OpenThree}
-use Rattle.small.proofs.SmallLaws.{length-encoded, smalls-encoded}
+use Rattle.encoding.proofs.EncodingLaws.{length-encoded, smalls-encoded}
 use Rattle.packing.proofs.PackingLaws.{length-packed, unpack-pack}
 use Rattle.answers.proofs.Exits.{for-known}
 use Rattle.answers.proofs.SetLaws.{IsSet, known-set}

@@ -15,7 +15,8 @@ use Rattle.answers.specs.declared.Parameters.{Parameters}
 use Rattle.answers.specs.declared.SetChoice.the-variants.{Known}
 use Rattle.answers.specs.Replies.{reply}
 use Rattle.answers.specs.Sets.{setOf}
-use Rattle.stages.specs.Making.{smallF, smallG, tripled, plusOne, fImage, gImage, publicKey, privateKey}
+use Rattle.stages.specs.Images.{tripled, plusOne}
+use Rattle.stages.specs.Making.{smallF, smallG, fImage, gImage, publicKey, privateKey}
 use Rattle.stages.specs.Sealing.{keyBytes, ciphertext}
 use Rattle.agreement.specs.Opened.{Pair}
 use Rattle.calls_make.specs.Make.{makeReply, publicOf, privateOf, Make}

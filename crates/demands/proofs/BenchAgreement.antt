@@ -10,17 +10,19 @@ use lib.ListN.{length, getD, drop, length-drop}
 use borrow.Author.Tests.{ne-eqb}
 use Rattle.lists.specs.First.{firstWhere, firstThrough}
 use Rattle.algebra.specs.SlotBySlot.{isZero}
-use Rattle.small.specs.Encoding.{encoded}
+use Rattle.encoding.specs.Encoding.{encoded}
 use Rattle.answers.specs.Replies.{reply}
 use Rattle.answers.specs.Sets.{parametersOf, setOf}
-use Rattle.stages.specs.Making.{smallF, smallG, tripled, plusOne, fImage, gImage}
+use Rattle.stages.specs.Images.{tripled, plusOne}
+use Rattle.stages.specs.Making.{smallF, smallG, fImage, gImage}
 use Rattle.stages.specs.Sealing.{smallR}
 use Rattle.agreement.specs.BenchPair.{benchSeed}
 use Rattle.agreement.specs.Opened.{Pair, InRange}
 use Rattle.calls_make.specs.Make.{makeReply}
 use Rattle.lists.proofs.FirstLaws.{first-nowhere, length-through, length-one, through-past, through-one}
 use Rattle.lists.proofs.TabLaws.{length-tab}
-use Rattle.small.proofs.SmallLaws.{length-sampled, smalls-sampled, smalls-encoded}
+use Rattle.small.proofs.SmallLaws.{length-sampled, smalls-sampled}
+use Rattle.encoding.proofs.EncodingLaws.{smalls-encoded}
 use Rattle.answers.proofs.Exits.{in-order, none-found}
 use Rattle.stages.proofs.ImageLaws.{imageOf-residues}
 use Rattle.agreement.proofs.BenchPair.{bench-pair, bench-near}

@@ -17,7 +17,7 @@ use Rattle.algebra.specs.Product.{monomial}
 use Rattle.algebra.specs.Transform.{exponent}
 use Rattle.bits.specs.Blocks.{blocks}
 use Rattle.bits.specs.Listing.{place, goesTo}
-use Rattle.small.specs.Encoding.{xor, encodeBit, decodeBit}
+use Rattle.encoding.specs.Encoding.{xor, encodeBit, decodeBit}
 use Rattle.packing.specs.Packing.{threeBytes, packed, twoGroups, groups}
 use Rattle.answers.specs.Sets.{parametersOf, setOf, forSet}
 use Rattle.answers.specs.Tests.{atFirst, inRange}

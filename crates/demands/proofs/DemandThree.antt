@@ -5,7 +5,7 @@ use mathlib.Core.Path.{_≡_, subst}
 use Prim.Native.Nat.{ℕ, _/_}
 use native.Mathlib.Omega.{arith}
 use Rattle.lists.specs.Below.{Below}
-use Rattle.small.specs.Encoding.{encoded}
+use Rattle.encoding.specs.Encoding.{encoded}
 use Rattle.answers.specs.declared.Parameters.{Parameters}
 use Rattle.answers.specs.declared.SetChoice.the-variants.{Known}
 use Rattle.answers.specs.Answers.{numberOf}

@@ -4,7 +4,7 @@ use mathlib.Core.List.{List}
 use mathlib.Core.Path.{_≡_}
 use Prim.Native.Nat.{ℕ, _/_}
 use lib.IntN.{ℤ}
-use Rattle.small.specs.Encoding.{encoded}
+use Rattle.encoding.specs.Encoding.{encoded}
 use Rattle.answers.specs.declared.Answer.{Answer}
 use Rattle.answers.specs.Answers.{numberOf}
 use Rattle.stages.specs.Making.{smallF, smallG}

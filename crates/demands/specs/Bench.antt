@@ -14,7 +14,7 @@ use Rattle.residue.specs.Signed.{centredByThree}
 use Rattle.algebra.specs.Product.{monomial}
 use Rattle.bits.specs.Bits.{bit}
 use Rattle.bits.specs.Listing.{listed}
-use Rattle.small.specs.Encoding.{encodeBit, decodeBit}
+use Rattle.encoding.specs.Encoding.{encodeBit, decodeBit}
 use Rattle.packing.specs.Packing.{packed, groups}
 use Rattle.answers.specs.Replies.{reply}
 use Rattle.answers.specs.Tests.{inRange}

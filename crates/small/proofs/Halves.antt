@@ -1,27 +1,20 @@
 -- What steps on the bits of a block's two halves, one after the other in one room, make of the block.
 -- Assumes nothing.
-use mathlib.Core.Path.{_≡_, sym, ap, _∙_, subst}
 use mathlib.Core.List.{List, _++_, map}
+use mathlib.Core.Path.{_≡_, sym, ap, _∙_, subst}
 use Prim.Native.Nat.{ℕ, _+_, _*_, _/_, _%_, _<_}
 use native.Mathlib.Omega.{arith}
 use lib.IntN.{pos, _-ℤ_}
-use lib.ListN.{length, getD, length-append, length-drop, length-map, List·getD-append, List·getD-map}
+use lib.ListN.{length, getD, length-append, length-drop, List·getD-append}
 use lib.Seq.{length-take-le, getD-append-add}
 use Rattle.lists.specs.Tab.{tab}
 use Rattle.lists.specs.Below.{Below}
 use Rattle.residue.specs.Signed.{residueOf}
-use Rattle.bits.specs.Listing.{listed, unlisted}
-use Rattle.marks.specs.Marks.{ofMark}
+use Rattle.bits.specs.Listing.{listed}
 use Rattle.lists.proofs.TabLaws.{tab-cong, map-tab}
 use Rattle.lists.proofs.BelowLaws.{below-append}
 use Rattle.bits.proofs.ListingLaws.{length-listed, below-listed}
 use Rattle.small.specs.Sampling.{firstHalf, secondHalf, firstBit, secondBit, sampled}
-use Rattle.small.specs.Encoding.{encodeBit, decodeBit, encoded, decoded}
-
--- what mark i stands for
-mark-at : (marks : List ℕ) (i : ℕ) → ofMark (getD marks i 0) ≡ getD (map ofMark marks) i (pos 0)
-unfolding ofMark
-mark-at marks i = sym (List·getD-map ofMark marks i 0)
 
 module _ (block : List ℕ) (words : length block % 8 ≡ 0) where
   -- n/8 bytes each
@@ -61,12 +54,12 @@ module _ (block : List ℕ) (words : length block % 8 ≡ 0) where
         ∙ getD-append-add (listed (firstHalf block)) (listed (secondHalf block)) i 0
 
     -- so a step on them is a step on those
-    step-is : (n : ℕ) → n ≡ 4 * length block → (f : ℕ → ℕ → ℕ → ℕ)
+    pub step-is : (n : ℕ) → n ≡ 4 * length block → (f : ℕ → ℕ → ℕ → ℕ)
         → tab n (λ i. f i (getD halves i 0) (getD halves (n + i) 0)) ≡ tab n (λ i. f i (firstBit block i) (secondBit block i))
     step-is n e f =
         tab-cong n (λ i h. ap (λ a. f i a (getD halves (n + i) 0)) (bit-first i (omega arith)) ∙ ap (f i (firstBit block i)) (ap (λ k. getD halves (k + i) 0) e ∙ bit-second i))
 
-    -- and the three steps are sampling, encoding and decoding
+    -- and one such step is sampling
     pub sampled-is : (n : ℕ) → n ≡ 4 * length block
         → tab n (λ i. residueOf (pos (getD halves i 0) -ℤ pos (getD halves (n + i) 0))) ≡ map residueOf (sampled block)
     unfolding sampled
@@ -74,20 +67,3 @@ module _ (block : List ℕ) (words : length block % 8 ≡ 0) where
         step-is n e (λ i a b. residueOf (pos a -ℤ pos b))
         ∙ ap (λ m. tab m (λ i. residueOf (pos (firstBit block i) -ℤ pos (secondBit block i)))) e
         ∙ sym (map-tab residueOf (4 * length block) (λ i. pos (firstBit block i) -ℤ pos (secondBit block i)))
-
-    pub encoded-is : (message bits : List ℕ) (n : ℕ) → n ≡ 4 * length block → n ≡ 8 * length message → bits ≡ listed message
-        → tab n (λ i. residueOf (encodeBit (getD bits i 0) (getD halves i 0) (getD halves (n + i) 0))) ≡ map residueOf (encoded message block)
-    unfolding encoded
-    encoded-is message bits n e k m =
-        step-is n e (λ i a b. residueOf (encodeBit (getD bits i 0) a b))
-        ∙ ap (λ l. tab n (λ i. residueOf (encodeBit (getD l i 0) (firstBit block i) (secondBit block i)))) m
-        ∙ ap (λ x. tab x (λ i. residueOf (encodeBit (getD (listed message) i 0) (firstBit block i) (secondBit block i)))) k
-        ∙ sym (map-tab residueOf (8 * length message) (λ i. encodeBit (getD (listed message) i 0) (firstBit block i) (secondBit block i)))
-
-    pub decoded-is : (marks bits : List ℕ) (n : ℕ) → n ≡ 4 * length block → n ≡ length marks
-        → bits ≡ tab n (λ i. decodeBit (ofMark (getD marks i 0)) (getD halves i 0) (getD halves (n + i) 0)) → unlisted bits ≡ decoded (map ofMark marks) block
-    unfolding decoded
-    decoded-is marks bits n e k b =
-        ap unlisted (b ∙ step-is n e (λ i x y. decodeBit (ofMark (getD marks i 0)) x y)
-        ∙ tab-cong n (λ i h. ap (λ c. decodeBit c (firstBit block i) (secondBit block i)) (mark-at marks i))
-        ∙ ap (λ m. tab m (λ i. decodeBit (getD (map ofMark marks) i (pos 0)) (firstBit block i) (secondBit block i))) (k ∙ sym (length-map marks ofMark)))

@@ -1,24 +1,18 @@
--- Sampled and encoded polynomials are small; decoding takes the encoding back, and so encoding is one-to-one.
+-- Sampled polynomials are small.
 -- Assumes nothing.
-use mathlib.Core.Path.{_≡_, refl, sym, ap, _∙_}
 use mathlib.Core.List.{List}
-use Prim.Native.Nat.{ℕ, _*_, _%_, _<_}
+use mathlib.Core.Path.{_≡_}
+use Prim.Native.Nat.{ℕ, _*_, _<_}
 use native.Mathlib.Omega.{arith}
 use lib.IntN.{pos}
-use lib.ListN.{length, getD}
-use Rattle.lists.specs.Tab.{tab}
-use Rattle.lists.specs.Below.{Below}
-use Rattle.bits.specs.Listing.{listed, unlisted}
+use lib.ListN.{length}
 use Rattle.marks.specs.Marks.{Small, Smalls}
-use Rattle.lists.proofs.TabLaws.{length-tab, getD-tab, tab-of, tab-cong, all-tab}
-use Rattle.bits.proofs.ListingLaws.{length-listed, below-listed, unlisted-listed}
+use Rattle.lists.proofs.TabLaws.{length-tab, all-tab}
+use Rattle.bits.proofs.ListingLaws.{below-listed}
 use Rattle.small.specs.Sampling.{firstBit, secondBit, sampled}
-use Rattle.small.specs.Encoding.{encodeBit, decodeBit, encoded, decoded}
-use Rattle.small.proofs.BitLaws.{xor-lt, difference-small, decodeBit-encodeBit}
+use Rattle.small.proofs.BitLaws.{difference-small}
 
--- ---- the bits of a block
-
--- each is 0 or 1
+-- each bit of a block is 0 or 1
 pub firstBit-lt : (block : List ℕ) (i : ℕ) → firstBit block i < 2
 unfolding firstBit
 firstBit-lt block i = below-listed _ .low i
@@ -27,49 +21,13 @@ pub secondBit-lt : (block : List ℕ) (i : ℕ) → secondBit block i < 2
 unfolding secondBit
 secondBit-lt block i = below-listed _ .low i
 
--- ---- lengths, and small coefficients
-
--- n coefficients from n/4 bytes, and from a message of n/8
+-- n coefficients from n/4 bytes
 pub length-sampled : (block : List ℕ) → length (sampled block) ≡ 4 * length block
 unfolding sampled
 length-sampled block = length-tab (4 * length block) _
 
-pub length-encoded : (message block : List ℕ) → length (encoded message block) ≡ 8 * length message
-unfolding encoded
-length-encoded message block = length-tab (8 * length message) _
-
--- each is -1, 0 or 1
+-- each of which is -1, 0 or 1
 pub smalls-sampled : (block : List ℕ) → Smalls (sampled block)
 unfolding sampled
 smalls-sampled block =
     record { small = all-tab Small (pos 0) (difference-small 0 0 (omega arith) (omega arith)) _ _ (λ i. difference-small _ _ (firstBit-lt block i) (secondBit-lt block i)) }
-
-pub smalls-encoded : (message block : List ℕ) → Smalls (encoded message block)
-unfolding encoded encodeBit
-smalls-encoded message block =
-    record { small = all-tab Small (pos 0) (difference-small 0 0 (omega arith) (omega arith)) _ _ (λ i. difference-small _ _ (xor-lt _ _) (secondBit-lt block i)) }
-
--- ---- decoding what was encoded with the same block
-
-module _ (message block : List ℕ) (words : length message % 4 ≡ 0) where
-  -- bit by bit
-  bit-back : (i : ℕ) → i < 8 * length message
-      → decodeBit (getD (encoded message block) i (pos 0)) (firstBit block i) (secondBit block i) ≡ getD (listed message) i 0
-  unfolding encoded
-  bit-back i h =
-      ap (λ c. decodeBit c (firstBit block i) (secondBit block i)) (getD-tab (8 * length message) _ i (pos 0) h)
-      ∙ decodeBit-encodeBit (getD (listed message) i 0) (firstBit block i) (secondBit block i) (below-listed message .low i) (firstBit-lt block i) (secondBit-lt block i)
-
-  -- the message comes back, whatever the block
-  pub decoded-encoded : Below 256 message → decoded (encoded message block) block ≡ message
-  unfolding decoded
-  decoded-encoded bytes =
-      ap unlisted (ap (λ n. tab n (λ i. decodeBit (getD (encoded message block) i (pos 0)) (firstBit block i) (secondBit block i))) (length-encoded message block)
-      ∙ tab-cong (8 * length message) bit-back
-      ∙ sym (tab-of 0 (8 * length message) (λ i. getD (listed message) i 0) (listed message) (length-listed message words) (λ i h. refl)))
-      ∙ unlisted-listed message words bytes
-
--- two messages that one block encodes alike are the same
-pub encoded-injective : (a b block : List ℕ) → length a % 4 ≡ 0 → length b % 4 ≡ 0 → Below 256 a → Below 256 b → encoded a block ≡ encoded b block → a ≡ b
-encoded-injective a b block wa wb ba bb e =
-    sym (decoded-encoded a block wa ba) ∙ ap (λ c. decoded c block) e ∙ decoded-encoded b block wb bb

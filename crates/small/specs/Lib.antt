@@ -1,2 +1,1 @@
 pub mod Sampling
-pub mod Encoding

@@ -9,10 +9,11 @@ use Rattle.residue.specs.Field.{q}
 use Rattle.residue.specs.Residues.{Residues}
 use Rattle.residue.specs.Signed.{residueOf}
 use Rattle.small.specs.Sampling.{sampled}
-use Rattle.small.specs.Encoding.{encoded}
+use Rattle.encoding.specs.Encoding.{encoded}
 use Rattle.residue.proofs.SignedLaws.{residueOf-lt}
 use Rattle.algebra.proofs.Lists.{image-residues}
-use Rattle.small.proofs.SmallLaws.{length-sampled, length-encoded}
+use Rattle.small.proofs.SmallLaws.{length-sampled}
+use Rattle.encoding.proofs.EncodingLaws.{length-encoded}
 use Rattle.stages.specs.Images.{imageOf}
 
 -- the same list, and the same length, written in another way

@@ -1,12 +1,12 @@
 -- Making a pair from a seed block, over n = 2h with the root w.
 -- Assumes nothing: these are definitions.
-use mathlib.Core.List.{List, [], _∷_, _++_, map}
+use mathlib.Core.List.{List, _++_}
 use Prim.Native.Nat.{ℕ, _+_}
-use lib.IntN.{ℤ, pos, _+ℤ_, _*ℤ_}
+use lib.IntN.{ℤ}
 use Rattle.algebra.specs.SlotBySlot.{times, inverses}
 use Rattle.small.specs.Sampling.{firstHalf, secondHalf, sampled}
 use Rattle.packing.specs.Packing.{packed}
-use Rattle.stages.specs.Images.{imageOf}
+use Rattle.stages.specs.Images.{tripled, plusOne, imageOf}
 
 -- "Make samples f' from the first half of its block and g' from the second"
 unfoldable pub smallF : List ℕ → List ℤ
@@ -14,14 +14,6 @@ smallF seed = sampled (firstHalf seed)
 
 unfoldable pub smallG : List ℕ → List ℤ
 smallG seed = sampled (secondHalf seed)
-
--- three times a polynomial, and a polynomial plus 1
-unfoldable pub tripled : List ℤ → List ℤ
-tripled p = map (λ z. pos 3 *ℤ z) p
-
-unfoldable pub plusOne : List ℤ → List ℤ
-plusOne [] = []
-plusOne (z ∷ p) = (z +ℤ pos 1) ∷ p
 
 -- "f = 3f' + 1, g = 3g', h = g/f slot by slot": their images
 unfoldable pub fImage : ℕ → ℕ → List ℤ → List ℕ

@@ -7,8 +7,8 @@ use Rattle.residue.specs.Signed.{centredByThree}
 use Rattle.algebra.specs.SlotBySlot.{minus, times}
 use Rattle.algebra.specs.Transform.{reverse}
 use Rattle.marks.specs.Marks.{markOf, ofMark}
-use Rattle.small.specs.Encoding.{decoded}
 use Rattle.small.specs.Sampling.{firstHalf, secondHalf}
+use Rattle.encoding.specs.Encoding.{decoded}
 use Rattle.packing.specs.Packing.{packed, groups}
 use Rattle.stages.specs.Images.{imageOf}
 

@@ -6,7 +6,7 @@ use lib.IntN.{ℤ}
 use lib.ListN.{take, drop}
 use Rattle.algebra.specs.SlotBySlot.{plus, times}
 use Rattle.small.specs.Sampling.{sampled}
-use Rattle.small.specs.Encoding.{encoded}
+use Rattle.encoding.specs.Encoding.{encoded}
 use Rattle.packing.specs.Packing.{packed, groups}
 use Rattle.stages.specs.Images.{imageOf}
 

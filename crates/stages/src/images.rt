@@ -5,7 +5,7 @@ ghost use Prim.Native.Nat.{_+_, _*_, _%_};
 ghost use lib.ListN.{length};
 ghost use Rattle.residue.specs.Field.{generator, powq};
 ghost use Rattle.small.specs.Sampling.{sampled};
-ghost use Rattle.small.specs.Encoding.{encoded};
+ghost use Rattle.encoding.specs.Encoding.{encoded};
 ghost use Rattle.slots.specs.Ready.{Ready};
 ghost use Rattle.stages.specs.Images.{imageOf};
 
@@ -62,7 +62,7 @@ fn encoded_image_in(
     requires { ⌜ (length (now bits) ≡ half + half) × (length (now halves) ≡ 4 * half) × (length (now p) ≡ half + half) × (length (now out) ≡ half + half) ⌝ }
     ensures { λ _. ⌜ now (out .exit) ≡ imageOf half (powq generator step) (encoded (now (message .entry)) (now (block .entry))) ⌝ }
 {
-    small::encode(message, block, bits, halves, p);
+    encoding::encode(message, block, bits, halves, p);
     transform(half, step, p, powers, out);
 }
 

@@ -8,7 +8,7 @@ use lib.IntN.{ℤ, pos, _*ℤ_}
 use lib.ListN.{length, getD, set, length-map}
 use Rattle.residue.specs.Field.{addq, mulq}
 use Rattle.residue.specs.Signed.{residueOf}
-use Rattle.stages.specs.Making.{tripled, plusOne}
+use Rattle.stages.specs.Images.{tripled, plusOne}
 use Rattle.residue.proofs.SignedLaws.{residueOf-add, residueOf-mul}
 
 pub length-tripled : (p : List ℤ) → length (tripled p) ≡ length p

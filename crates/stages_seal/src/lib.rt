@@ -6,7 +6,7 @@ ghost use Prim.Native.Nat.{_+_, _*_, _%_, _≤_};
 ghost use lib.ListN.{length};
 ghost use Rattle.residue.specs.Field.{generator, powq};
 ghost use Rattle.residue.specs.Residues.{Residues};
-ghost use Rattle.small.specs.Encoding.{encoded};
+ghost use Rattle.encoding.specs.Encoding.{encoded};
 ghost use Rattle.slots.specs.Ready.{Ready};
 ghost use Rattle.stages.specs.Sealing.{keyBytes, smallR, rImage, sealedImage};
 

@@ -14,7 +14,8 @@ use Rattle.algebra.specs.SlotBySlot.{times, inverses, isZero}
 use Rattle.packing.specs.Packing.{packed}
 use Rattle.answers.specs.declared.Answer.the-variants.{Done, ZeroSlot}
 use Rattle.answers.specs.Replies.{Reply, reply, leaves}
-use Rattle.stages.specs.Making.{smallF, smallG, tripled, plusOne, fImage, gImage, hImage, publicKey, privateKey}
+use Rattle.stages.specs.Images.{tripled, plusOne}
+use Rattle.stages.specs.Making.{smallF, smallG, fImage, gImage, hImage, publicKey, privateKey}
 use Rattle.lists.proofs.FirstLaws.{length-through, length-one, first-within, through-one}
 use Rattle.answers.proofs.Counting.{counted}
 use Rattle.answers.proofs.Exits as X

@@ -11,7 +11,7 @@ use Rattle.lists.specs.First.{firstThrough}
 use Rattle.residue.specs.Field.{generator, powq}
 use Rattle.residue.specs.Large.{tooLarge, firstLarge}
 use Rattle.residue.specs.Residues.{Residues}
-use Rattle.small.specs.Encoding.{encoded}
+use Rattle.encoding.specs.Encoding.{encoded}
 use Rattle.packing.specs.Packing.{packed, groups}
 use Rattle.answers.specs.declared.Answer.the-variants.{Done}
 use Rattle.answers.specs.Replies.{Reply, reply, leaves}

@@ -12,8 +12,8 @@ use Rattle.residue.specs.Field.{q, generator, addq, mulq, powq}
 use Rattle.residue.specs.Signed.{residueOf}
 use Rattle.algebra.specs.Transform.{image}
 use Rattle.small.specs.Sampling.{sampled}
-use Rattle.stages.specs.Images.{imageOf}
-use Rattle.stages.specs.Making.{tripled, plusOne, fImage}
+use Rattle.stages.specs.Images.{tripled, plusOne, imageOf}
+use Rattle.stages.specs.Making.{fImage}
 use Rattle.algebra.proofs.Sets.{half-positive}
 use Rattle.small.proofs.SmallLaws.{length-sampled}
 use Rattle.stages.proofs.ImageLaws.{residues-as, whole-residues, sampled-residues}

@@ -2,15 +2,14 @@
 -- Assumes nothing.
 use mathlib.Core.List.{map}
 use mathlib.Core.Path.{_≡_, refl, sym, ap, _∙_}
-use native.Mathlib.Omega.{arith}
 use denote.Ref.{now}
 use borrow.Author.Needs.{needs}
 use Rattle.residue.specs.Field.{generator, mulq, powq}
 use Rattle.residue.specs.Signed.{residueOf}
 use Rattle.algebra.specs.Transform.{image}
 use Rattle.small.specs.Sampling.{sampled}
-use Rattle.stages.specs.Images.{imageOf}
-use Rattle.stages.specs.Making.{tripled, gImage}
+use Rattle.stages.specs.Images.{tripled, imageOf}
+use Rattle.stages.specs.Making.{gImage}
 use Rattle.small.proofs.SmallLaws.{length-sampled}
 use Rattle.stages.proofs.ImageLaws.{residues-as, whole-residues, sampled-residues}
 use Rattle.stages_make.proofs.MakingLaws.{length-tripled, map-tripled}

@@ -3,7 +3,6 @@
 use mathlib.Core.List.{map}
 use mathlib.Core.Path.{_≡_, refl, ap, _∙_}
 use Prim.Native.Nat.{_+_}
-use native.Mathlib.Omega.{arith}
 use denote.Ref.{now}
 use borrow.Author.Needs.{needs}
 use Rattle.residue.specs.Field.{generator, powq}

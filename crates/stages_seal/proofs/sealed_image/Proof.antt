@@ -10,8 +10,8 @@ use borrow.Author.Needs.{needs}
 use borrow.Rule.Slice.PartAt.{part-to-end}
 use Rattle.residue.specs.Field.{generator, powq}
 use Rattle.algebra.specs.SlotBySlot.{plus, times}
-use Rattle.small.specs.Encoding.{encoded}
 use Rattle.small.specs.Sampling.{sampled}
+use Rattle.encoding.specs.Encoding.{encoded}
 use Rattle.stages.specs.Images.{imageOf}
 use Rattle.stages.specs.Sealing.{smallR, sealedImage}
 use Rattle.algebra.proofs.Lists.{times-residues}

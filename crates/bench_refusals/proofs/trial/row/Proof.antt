@@ -2,8 +2,8 @@
 -- Assumes nothing.
 use Prim.Native.Nat.{_-_, _≤_}
 use borrow.Author.Needs.{needs}
-use Rattle.bench.proofs.trial.row.Statement.{statement}
-use Rattle.bench.proofs.trial.row.Tie as tie
+use Rattle.bench_refusals.proofs.trial.row.Statement.{statement}
+use Rattle.bench_refusals.proofs.trial.row.Tie as tie
 
 abbrev Inv-loop : tie.InvT-loop
 Inv-loop call set n buffers buffer₀ at₀ buffer at = at ≤ buffers

@@ -4,10 +4,10 @@ use mathlib.Core.Path.{ap, _∙_}
 use native.Mathlib.Omega.{arith}
 use lib.IntN.{pos, _-ℤ_}
 use Rattle.residue.specs.Signed.{residueOf}
-use Rattle.small.specs.Encoding.{encodeBit}
-use Rattle.small.proofs.BitLaws.{bitXor-xor, xor-lt}
-use Rattle.small.proofs.encode_bit.Statement.{statement}
-use Rattle.small.proofs.encode_bit.Tie as tie
+use Rattle.encoding.specs.Encoding.{encodeBit}
+use Rattle.encoding.proofs.XorLaws.{bitXor-xor, xor-lt}
+use Rattle.encoding.proofs.encode_bit.Statement.{statement}
+use Rattle.encoding.proofs.encode_bit.Tie as tie
 
 difference-requires : tie.Need-difference-requires
 difference-requires c κs =

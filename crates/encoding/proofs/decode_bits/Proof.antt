@@ -8,9 +8,9 @@ use denote.Ref.{now}
 use borrow.Author.Needs.{needs}
 use Rattle.marks.specs.Marks.{ofMark}
 use Rattle.lists.proofs.Fill.{Fill, fill-start, fill-turn, fill-end}
-use Rattle.small.specs.Encoding.{decodeBit}
-use Rattle.small.proofs.decode_bits.Statement.{statement}
-use Rattle.small.proofs.decode_bits.Tie as tie
+use Rattle.encoding.specs.Encoding.{decodeBit}
+use Rattle.encoding.proofs.decode_bits.Statement.{statement}
+use Rattle.encoding.proofs.decode_bits.Tie as tie
 
 abbrev Inv-loop : tie.InvT-loop
 Inv-loop marks halves bits₀ n i₀ bits i =

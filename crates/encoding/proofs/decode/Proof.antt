@@ -10,10 +10,11 @@ use Rattle.lists.specs.Tab.{tab}
 use Rattle.lists.specs.Below.{Below}
 use Rattle.lists.proofs.TabLaws.{length-tab}
 use Rattle.lists.proofs.BelowLaws.{below-tab}
-use Rattle.small.proofs.BitLaws.{decodeBit-lt}
-use Rattle.small.proofs.Halves.{halves-long, halves-low, decoded-is}
-use Rattle.small.proofs.decode.Statement.{statement}
-use Rattle.small.proofs.decode.Tie as tie
+use Rattle.small.proofs.Halves.{halves-long, halves-low}
+use Rattle.encoding.proofs.XorLaws.{decodeBit-lt}
+use Rattle.encoding.proofs.Steps.{decoded-is}
+use Rattle.encoding.proofs.decode.Statement.{statement}
+use Rattle.encoding.proofs.decode.Tie as tie
 
 -- a table of bits
 table-low : (bits : List ℕ) (n : ℕ) (f : ℕ → ℕ) → bits ≡ tab n f → ((i : ℕ) → f i < 2) → Below 2 bits

@@ -7,9 +7,10 @@ use lib.ListN.{length}
 use denote.Ref.{now}
 use Rattle.lists.specs.Below.{Below}
 use Rattle.bits.proofs.ListingLaws.{length-listed, below-listed}
-use Rattle.small.proofs.Halves.{halves-long, halves-low, encoded-is}
-use Rattle.small.proofs.encode.Statement.{statement}
-use Rattle.small.proofs.encode.Tie as tie
+use Rattle.small.proofs.Halves.{halves-long, halves-low}
+use Rattle.encoding.proofs.Steps.{encoded-is}
+use Rattle.encoding.proofs.encode.Statement.{statement}
+use Rattle.encoding.proofs.encode.Tie as tie
 
 list-requires : tie.Need-list-requires
 list-requires c κs = omega arith

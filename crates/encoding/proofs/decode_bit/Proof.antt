@@ -1,9 +1,9 @@
 -- `small::decode_bit` meets its contract: by trying all marks and bits.
 -- Assumes nothing.
 use borrow.Author.Needs.{needs}
-use Rattle.small.proofs.BitLaws.{decodeBit-mark}
-use Rattle.small.proofs.decode_bit.Statement.{statement}
-use Rattle.small.proofs.decode_bit.Tie as tie
+use Rattle.encoding.proofs.XorLaws.{decodeBit-mark}
+use Rattle.encoding.proofs.decode_bit.Statement.{statement}
+use Rattle.encoding.proofs.decode_bit.Tie as tie
 
 add-result : tie.Need-add-result
 add-result c = search needs

@@ -8,9 +8,9 @@ use denote.Ref.{now}
 use borrow.Author.Needs.{needs}
 use Rattle.residue.specs.Signed.{residueOf}
 use Rattle.lists.proofs.Fill.{Fill, fill-start, fill-turn, fill-end}
-use Rattle.small.specs.Encoding.{encodeBit}
-use Rattle.small.proofs.encode_bits.Statement.{statement}
-use Rattle.small.proofs.encode_bits.Tie as tie
+use Rattle.encoding.specs.Encoding.{encodeBit}
+use Rattle.encoding.proofs.encode_bits.Statement.{statement}
+use Rattle.encoding.proofs.encode_bits.Tie as tie
 
 abbrev Inv-loop : tie.InvT-loop
 Inv-loop bits halves coefficients₀ n i₀ coefficients i =

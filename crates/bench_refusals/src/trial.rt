@@ -2,11 +2,10 @@
 use crate::lend;
 use crate::lend::Call;
 use crate::lend::Lent;
+use crate::lend::lending;
 use bench_rooms::room;
+use bench_rooms::room::At;
 use bench_rooms::show;
-
-// A place and the byte that is put there.
-pub struct At(pub usize, pub u8);
 
 // Prints the name of a call.
 fn name(call: Call) {
@@ -32,14 +31,14 @@ fn lists(call: Call, lent: Lent) {
 }
 
 // A call on bytes: the first input is zero but for three, the second has one byte value but for one, and the others are zero.
-pub fn bytes(call: Call, lent: Lent, one: At, two: At, three: At, fill: u8, last: At) {
+fn bytes(call: Call, lent: Lent, one: At, two: At, three: At, fill: u8, last: At) {
     let zeros = room::bytes(0);
     let mut a = room::bytes(0);
-    room::put(&mut a, one.0, one.1);
-    room::put(&mut a, two.0, two.1);
-    room::put(&mut a, three.0, three.1);
+    room::put(&mut a, one);
+    room::put(&mut a, two);
+    room::put(&mut a, three);
     let mut b = room::bytes(fill);
-    room::put(&mut b, last.0, last.1);
+    room::put(&mut b, last);
     let mut out = room::bytes(165);
     let mut other = room::bytes(165);
     let answer = lend::on_bytes(call, lent, &a, &b, &zeros, &zeros, &mut out, &mut other);
@@ -78,10 +77,10 @@ fn attempt(call: Call, lent: Lent, buffer: usize) {
 
 // The call with the right lengths, and then with each of its buffers one off.
 fn row(call: Call, set: usize, n: usize, buffers: usize) {
-    attempt(call, lend::lending(set, n, 9), 0);
+    attempt(call, lending(set, n, 9), 0);
     let mut buffer = 0;
     for at in 0..buffers {
-        if 0 < lend::length(call, lend::lending(set, n, 9), at) {
+        if 0 < lend::length(call, lending(set, n, 9), at) {
             let below = Lent {
                 set: set,
                 n: n,
@@ -89,7 +88,7 @@ fn row(call: Call, set: usize, n: usize, buffers: usize) {
                 above: false,
             };
             attempt(call, below, buffer);
-            attempt(call, lend::lending(set, n, at), buffer);
+            attempt(call, lending(set, n, at), buffer);
             buffer = buffer % 6 + 1;
         }
     }
