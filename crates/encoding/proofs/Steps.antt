@@ -20,6 +20,7 @@ unfolding ofMark
 mark-at marks i = sym (List·getD-map ofMark marks i 0)
 
 module _ (block : List ℕ) (words : length block % 8 ≡ 0) (halves : List ℕ) (is : halves ≡ listed (firstHalf block) ++ listed (secondHalf block)) where
+  -- the step on a bit of the message and two of the halves is the encoding
   pub encoded-is : (message bits : List ℕ) (n : ℕ) → n ≡ 4 * length block → n ≡ 8 * length message → bits ≡ listed message
       → tab n (λ i. residueOf (encodeBit (getD bits i 0) (getD halves i 0) (getD halves (n + i) 0))) ≡ map residueOf (encoded message block)
   unfolding encoded
@@ -29,6 +30,7 @@ module _ (block : List ℕ) (words : length block % 8 ≡ 0) (halves : List ℕ)
       ∙ ap (λ x. tab x (λ i. residueOf (encodeBit (getD (listed message) i 0) (firstBit block i) (secondBit block i)))) k
       ∙ sym (map-tab residueOf (8 * length message) (λ i. encodeBit (getD (listed message) i 0) (firstBit block i) (secondBit block i)))
 
+  -- and the step on a mark and two bits, its bits turned back to bytes, is the decoding
   pub decoded-is : (marks bits : List ℕ) (n : ℕ) → n ≡ 4 * length block → n ≡ length marks
       → bits ≡ tab n (λ i. decodeBit (ofMark (getD marks i 0)) (getD halves i 0) (getD halves (n + i) 0)) → unlisted bits ≡ decoded (map ofMark marks) block
   unfolding decoded

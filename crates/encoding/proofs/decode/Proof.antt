@@ -1,4 +1,4 @@
--- `small::decode` meets its contract: the bits of the two halves, the message bits, then the reverse of the listing.
+-- `encoding::decode` meets its contract: the bits of the two halves, the message bits, then the reverse of the listing.
 -- Assumes nothing.
 use mathlib.Core.Path.{_≡_, sym, ap, _∙_, subst}
 use mathlib.Core.List.{List}

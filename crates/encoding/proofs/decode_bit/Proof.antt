@@ -1,4 +1,4 @@
--- `small::decode_bit` meets its contract: by trying all marks and bits.
+-- `encoding::decode_bit` meets its contract: by trying all marks and bits.
 -- Assumes nothing.
 use borrow.Author.Needs.{needs}
 use Rattle.encoding.proofs.XorLaws.{decodeBit-mark}

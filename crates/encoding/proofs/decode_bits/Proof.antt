@@ -1,4 +1,4 @@
--- `small::decode_bits` meets its contract: the bits are filled from the left.
+-- `encoding::decode_bits` meets its contract: the bits are filled from the left.
 -- Assumes nothing.
 use mathlib.Core.Path.{refl}
 use Prim.Native.Nat.{_+_, _-_}

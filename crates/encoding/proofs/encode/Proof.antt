@@ -1,4 +1,4 @@
--- `small::encode` meets its contract: the bits of the message and of the two halves, then the coefficients.
+-- `encoding::encode` meets its contract: the bits of the message and of the two halves, then the coefficients.
 -- Assumes nothing.
 use mathlib.Core.Path.{_≡_, sym, ap, _∙_, subst}
 use Prim.Native.Nat.{_%_}

@@ -1,4 +1,4 @@
--- `small::encode_bit` meets its contract: the machine's exclusive or is that of the bits.
+-- `encoding::encode_bit` meets its contract: the machine's exclusive or is that of the bits.
 -- Assumes nothing.
 use mathlib.Core.Path.{ap, _∙_}
 use native.Mathlib.Omega.{arith}

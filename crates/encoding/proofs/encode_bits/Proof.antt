@@ -1,4 +1,4 @@
--- `small::encode_bits` meets its contract: the coefficients are filled from the left.
+-- `encoding::encode_bits` meets its contract: the coefficients are filled from the left.
 -- Assumes nothing.
 use mathlib.Core.Path.{refl}
 use Prim.Native.Nat.{_+_, _-_}
