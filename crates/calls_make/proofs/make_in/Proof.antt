@@ -24,6 +24,17 @@ use Rattle.calls_make.proofs.Makes as M
 use Rattle.calls_make.proofs.make_in.Statement.{statement}
 use Rattle.calls_make.proofs.make_in.Tie as tie
 
+-- ---- earlier moments, each from a later one
+
+abbrev at-start : tie.After-pair-images → tie.Start
+at-start c = c .before .before .before .before .before .before .before .before
+
+abbrev at-pair-images : tie.After-through → tie.After-pair-images
+at-pair-images c = c .before .before .before .before .before .before .before .before .before
+
+abbrev at-else1 : tie.After-write-keys → tie.Else1
+at-else1 c = c .before .before .before .before .before
+
 -- ---- the images of f and g, of the arguments
 
 abbrev w : tie.Start → ℕ
@@ -52,19 +63,19 @@ Holds s public private = M.Holds (now (s .args .seed)) (now (s .args .public)) (
 
 -- ---- what is found in them
 
-f-is : (c : tie.After-pair-images) → c .pair-images .last .1 .1 .1 .1 .0 ≡ F (c .before .before .before .before .before .before .before .before)
+f-is : (c : tie.After-pair-images) → c .pair-images .last .1 .1 .1 .1 .0 ≡ F (at-start c)
 f-is c = c .pair-images .ensures .0
 
-g-is : (c : tie.After-pair-images) → c .pair-images .last .1 .1 .1 .1 .1 .0 ≡ G (c .before .before .before .before .before .before .before .before)
+g-is : (c : tie.After-pair-images) → c .pair-images .last .1 .1 .1 .1 .1 .0 ≡ G (at-start c)
 g-is c = c .pair-images .ensures .1
 
-long : (c : tie.After-pair-images) → length (c .pair-images .last .1 .1 .1 .1 .0) ≡ c .before .before .before .before .before .before .before .before .args .half + c .before .before .before .before .before .before .before .before .args .half
-long c = ap length (f-is c) ∙ F-residues (c .before .before .before .before .before .before .before .before) .long
+long : (c : tie.After-pair-images) → length (c .pair-images .last .1 .1 .1 .1 .0) ≡ at-start c .args .half + at-start c .args .half
+long c = ap length (f-is c) ∙ F-residues (at-start c) .long
 
-place : (c : tie.After-through) → c .through .result ≡ firstThrough isZero (F (c .before .before .before .before .before .before .before .before .before .before .before .before .before .before .before .before .before) ∷ G (c .before .before .before .before .before .before .before .before .before .before .before .before .before .before .before .before .before) ∷ [])
+place : (c : tie.After-through) → c .through .result ≡ firstThrough isZero (F (at-start (at-pair-images c)) ∷ G (at-start (at-pair-images c)) ∷ [])
 place c =
-    let s = c .before .before .before .before .before .before .before .before .before .before .before .before .before .before .before .before .before in
-    let k = c .before .before .before .before .before .before .before .before .before in
+    let s = at-start (at-pair-images c) in
+    let k = at-pair-images c in
     counted isZero (F s) (G s ∷ []) (sym (ap length (f-is k))) (c .before .before .before .first-zero .ensures ∙ ap (firstWhere isZero) (f-is k))
     (c .before .first-zero2 .ensures ∙ ap (firstWhere isZero) (g-is k) ∙ sym (through-one isZero (G s))) (c .through .ensures)
 
@@ -73,21 +84,21 @@ place c =
 quotient-as : {k n : ℕ} {f g F G : List ℕ} → k ≡ n → f ≡ F → g ≡ G → times k g (inverses k f) ≡ times n G (inverses n F)
 quotient-as a b c = cc
 
-h-is : (c : tie.After-write-keys) → let k = c .before .before .before .before .before .before .before .before .before .before .before .before .before .before .before in
+h-is : (c : tie.After-write-keys) → let k = at-pair-images (at-else1 c .before) in
     let f = k .pair-images .last .1 .1 .1 .1 .0 in
     times (length f) (k .pair-images .last .1 .1 .1 .1 .1 .0) (inverses (length f) f)
-    ≡ hImage (c .before .before .before .before .before .before .before .before .before .before .before .before .before .before .before .before .before .before .before .before .before .before .before .args .half) (w (c .before .before .before .before .before .before .before .before .before .before .before .before .before .before .before .before .before .before .before .before .before .before .before)) (smallF (now (c .before .before .before .before .before .before .before .before .before .before .before .before .before .before .before .before .before .before .before .before .before .before .before .args .seed))) (smallG (now (c .before .before .before .before .before .before .before .before .before .before .before .before .before .before .before .before .before .before .before .before .before .before .before .args .seed)))
+    ≡ hImage (at-start (at-pair-images (at-else1 c .before)) .args .half) (w (at-start (at-pair-images (at-else1 c .before)))) (smallF (now (at-start (at-pair-images (at-else1 c .before)) .args .seed))) (smallG (now (at-start (at-pair-images (at-else1 c .before)) .args .seed)))
 unfolding hImage
-h-is c = let k = c .before .before .before .before .before .before .before .before .before .before .before .before .before .before .before in quotient-as (long k) (f-is k) (g-is k)
+h-is c = let k = at-pair-images (at-else1 c .before) in quotient-as (long k) (f-is k) (g-is k)
 
-public-is : (c : tie.After-write-keys) → c .write-keys .last .1 .1 .0 ≡ publicKey (c .before .before .before .before .before .before .before .before .before .before .before .before .before .before .before .before .before .before .before .before .before .before .before .args .half) (w (c .before .before .before .before .before .before .before .before .before .before .before .before .before .before .before .before .before .before .before .before .before .before .before)) (now (c .before .before .before .before .before .before .before .before .before .before .before .before .before .before .before .before .before .before .before .before .before .before .before .args .seed))
+public-is : (c : tie.After-write-keys) → c .write-keys .last .1 .1 .0 ≡ publicKey (at-start (at-pair-images (at-else1 c .before)) .args .half) (w (at-start (at-pair-images (at-else1 c .before)))) (now (at-start (at-pair-images (at-else1 c .before)) .args .seed))
 unfolding publicKey
 public-is c = c .write-keys .ensures .0 ∙ ap packed (h-is c)
 
-private-is : (c : tie.After-write-keys) → c .write-keys .last .1 .1 .1 .0 ≡ privateKey (c .before .before .before .before .before .before .before .before .before .before .before .before .before .before .before .before .before .before .before .before .before .before .before .args .half) (w (c .before .before .before .before .before .before .before .before .before .before .before .before .before .before .before .before .before .before .before .before .before .before .before)) (now (c .before .before .before .before .before .before .before .before .before .before .before .before .before .before .before .before .before .before .before .before .before .before .before .args .seed))
+private-is : (c : tie.After-write-keys) → c .write-keys .last .1 .1 .1 .0 ≡ privateKey (at-start (at-pair-images (at-else1 c .before)) .args .half) (w (at-start (at-pair-images (at-else1 c .before)))) (now (at-start (at-pair-images (at-else1 c .before)) .args .seed))
 unfolding privateKey
 private-is c =
-    let k = c .before .before .before .before .before .before .before .before .before .before .before .before .before .before .before in
+    let k = at-pair-images (at-else1 c .before) in
     c .write-keys .ensures .1 ∙ ap₂ (λ a b. packed a ++ packed b) (f-is k) (ap₂ inverses (long k) (h-is c))
 
 -- ---- the needs
@@ -105,13 +116,13 @@ first-zero-requires-2 c κs = search needs
 
 through-requires : tie.Need-through-requires
 through-requires c κs =
-    let s = c .before .before .before .before .before .before .before .before .before .before .before .before .before .before .before .before in
+    let s = at-start (c .before .before .before .before .before .before .before .before) in
     let k = c .before .before .before .before .before .before .before .before in
     omega (arith, s .pre .0, long k, c .first-zero2 .ensures, first-within isZero (k .pair-images .last .1 .1 .1 .1 .1 .0), ap length (g-is k), G-residues s .long)
 
 add-if1 : tie.Need-add-if1
 add-if1 c =
-    omega (arith, c .before .before .before .before .before .before .before .before .before .before .before .before .before .before .before .before .before .pre .0, long (c .before .before .before .before .before .before .before .before .before))
+    omega (arith, at-start (at-pair-images c) .pre .0, long (at-pair-images c))
 
 same-length : tie.Need-same-length
 same-length c = search needs
@@ -122,14 +133,14 @@ same-length-2 c = search needs
 returns : tie.Need-returns
 unfolding leaves
 returns c =
-    let s = c .before .before .before .before .before .before .before .before .before .before .before .before .before .before .before .before .before .before in
+    let s = at-start (at-pair-images (c .before)) in
     X.found (Holds s (now (s .args .public)) (now (s .args .private))) 4 isZero (F s ∷ G s ∷ []) (reply 0 0) (ZeroSlot _) _ refl refl (place (c .before))
-    (omega (arith, c .if1 .taken, size s, long (c .before .before .before .before .before .before .before .before .before .before))) (refl, refl)
+    (omega (arith, c .if1 .taken, size s, long (at-pair-images (c .before)))) (refl, refl)
 
 write-keys-requires : tie.Need-write-keys-requires
 write-keys-requires c κs =
-    let s = c .before .before .before .before .before .before .before .before .before .before .before .before .before .before .before .before .before .before .before .before .before .before in
-    let k = c .before .before .before .before .before .before .before .before .before .before .before .before .before .before in
+    let s = at-start (at-pair-images (c .before .before .before .before .before)) in
+    let k = at-pair-images (c .before .before .before .before .before) in
     let n = long k in (
       (omega (arith, n), omega (arith, n, s .pre .0), residues-as (F-residues s) (f-is k) n, residues-as (G-residues s) (g-is k) n),
       (omega (arith, n, s .pre .1), omega (arith, n, s .pre .1)),
@@ -150,12 +161,12 @@ same-length-6 c = search needs
 returns-2 : tie.Need-returns-2
 unfolding leaves
 returns-2 c =
-    let s = c .before .before .before .before .before .before .before .before .before .before .before .before .before .before .before .before .before .before .before .before .before .before .before .before .before .before .before in
+    let s = at-start (at-pair-images (at-else1 (c .before .before .before .before) .before)) in
     let k = c .before .before .before .before in
     let public = k .write-keys .last .1 .1 .0 in
     let private = k .write-keys .last .1 .1 .1 .0 in
     X.not-found (Holds s public private) 4 isZero (F s ∷ G s ∷ []) (reply 0 0)
-    (omega (arith, c .before .before .before .before .before .before .before .before .before .if1 .left, size s, long (c .before .before .before .before .before .before .before .before .before .before .before .before .before .before .before .before .before .before .before), place (c .before .before .before .before .before .before .before .before .before .before))) Done
+    (omega (arith, at-else1 (c .before .before .before .before) .if1 .left, size s, long (at-pair-images (at-else1 (c .before .before .before .before) .before)), place (at-else1 (c .before .before .before .before) .before))) Done
     (X.done (Holds s public private) (public-is k, private-is k))
 
 pub make-in-spec : {M : Type 1} → statement M

@@ -28,6 +28,17 @@ use Rattle.calls_open_1.proofs.OpenOnes as O
 use Rattle.calls_open_1.proofs.open_1_in.Statement.{statement}
 use Rattle.calls_open_1.proofs.open_1_in.Tie as tie
 
+-- ---- earlier moments, each from a later one
+
+abbrev at-start : tie.After-unpack-all → tie.Start
+at-start c = c .before .before .before .before .before .before .before .before .before .before .before .before
+
+abbrev at-unpack-all : tie.Else1 → tie.After-unpack-all
+at-unpack-all c = c .before .before .before .before .before .before .before
+
+abbrev at-else1 : tie.After-open → tie.Else1
+at-else1 c = c .before .before .before .before .before .before
+
 -- ---- the inputs' groups and the image that is packed, of the arguments
 
 abbrev n : tie.Start → ℕ
@@ -75,24 +86,24 @@ Holds s marks image =
 
 -- ---- what is found in them, and written
 
-f-is : (c : tie.After-unpack-all) → c .unpack-all .last .1 .1 .0 ≡ F (c .before .before .before .before .before .before .before .before .before .before .before .before)
+f-is : (c : tie.After-unpack-all) → c .unpack-all .last .1 .1 .0 ≡ F (at-start c)
 f-is c = c .unpack-all .ensures .1 .0
 
-inverse-is : (c : tie.After-unpack-all) → c .unpack-all .last .1 .1 .1 .0 ≡ K (c .before .before .before .before .before .before .before .before .before .before .before .before)
+inverse-is : (c : tie.After-unpack-all) → c .unpack-all .last .1 .1 .1 .0 ≡ K (at-start c)
 inverse-is c = c .unpack-all .ensures .1 .1 .0
 
-c-is : (c : tie.After-unpack-all) → c .unpack-all .last .1 .1 .1 .1 .0 ≡ C (c .before .before .before .before .before .before .before .before .before .before .before .before)
+c-is : (c : tie.After-unpack-all) → c .unpack-all .last .1 .1 .1 .1 .0 ≡ C (at-start c)
 c-is c = c .unpack-all .ensures .1 .1 .1
 
-room : (c : tie.After-unpack-all) → length (c .unpack-all .last .1 .1 .0) ≡ n (c .before .before .before .before .before .before .before .before .before .before .before .before)
-room c = let s = c .before .before .before .before .before .before .before .before .before .before .before .before in ap length (f-is c) ∙ long-first (s .args .half) (private s) (s .pre .0 .2) ∙ omega arith
+room : (c : tie.After-unpack-all) → length (c .unpack-all .last .1 .1 .0) ≡ n (at-start c)
+room c = let s = at-start c in ap length (f-is c) ∙ long-first (s .args .half) (private s) (s .pre .0 .2) ∙ omega arith
 
-clear : (c : tie.Else1) → length (flatten (inputs (c .before .before .before .before .before .before .before .before .before .before .before .before .before .before .before .before .before .before .before))) ≤ firstThrough tooLarge (inputs (c .before .before .before .before .before .before .before .before .before .before .before .before .before .before .before .before .before .before .before))
-clear c = omega (arith, c .if1 .left, c .before .before .before .before .before .before .before .unpack-all .ensures .0, size (c .before .before .before .before .before .before .before .before .before .before .before .before .before .before .before .before .before .before .before), room (c .before .before .before .before .before .before .before))
+clear : (c : tie.Else1) → length (flatten (inputs (at-start (at-unpack-all c)))) ≤ firstThrough tooLarge (inputs (at-start (at-unpack-all c)))
+clear c = omega (arith, c .if1 .left, at-unpack-all c .unpack-all .ensures .0, size (at-start (at-unpack-all c)), room (at-unpack-all c))
 
-read : (c : tie.Else1) → let s = c .before .before .before .before .before .before .before .before .before .before .before .before .before .before .before .before .before .before .before in Residues (n s) (F s) × Residues (n s) (K s) × Residues (n s) (C s)
+read : (c : tie.Else1) → let s = at-start (at-unpack-all c) in Residues (n s) (F s) × Residues (n s) (K s) × Residues (n s) (C s)
 read c =
-    let s = c .before .before .before .before .before .before .before .before .before .before .before .before .before .before .before .before .before .before .before in
+    let s = at-start (at-unpack-all c) in
     let l = halves-residues (s .args .half) (private s) (s .pre .0 .2) (C s ∷ []) (clear c) in
     let two : n s ≡ 2 * s .args .half = omega arith in (
       residues-as (l .0) refl two,
@@ -100,10 +111,10 @@ read c =
       residues-through (C s) [] (long-C s) (through-clear tooLarge (groups (private s)) (C s ∷ []) (clear c) .1),
     )
 
-R-is : (c : tie.After-open) → c .open .last .1 .1 .1 .1 .1 .1 .1 .0 ≡ R (c .before .before .before .before .before .before .before .before .before .before .before .before .before .before .before .before .before .before .before .before .before .before .before .before .before)
+R-is : (c : tie.After-open) → c .open .last .1 .1 .1 .1 .1 .1 .1 .0 ≡ R (at-start (at-unpack-all (at-else1 c)))
 R-is c =
-    let s = c .before .before .before .before .before .before .before .before .before .before .before .before .before .before .before .before .before .before .before .before .before .before .before .before .before in
-    let k = c .before .before .before .before .before .before .before .before .before .before .before .before .before in
+    let s = at-start (at-unpack-all (at-else1 c)) in
+    let k = at-unpack-all (at-else1 c) in
     c .open .ensures .1 ∙ opened-as (s .args .half) (powq generator (s .args .step)) (f-is k) (inverse-is k) (c-is k)
 
 -- ---- the needs
@@ -129,14 +140,14 @@ same-length-3 c = search needs
 returns : tie.Need-returns
 unfolding leaves
 returns c =
-    let s = c .before .before .before .before .before .before .before .before .before .before .before .before .before .before .before .before .before .before .before in
+    let s = at-start (c .before .before .before .before .before .before .before) in
     X.too-large (Holds s (now (s .args .marks)) (now (s .args .image))) (inputs s) (reply 0 0) _ (c .before .before .before .before .before .before .before .unpack-all .ensures .0)
     (omega (arith, c .if1 .taken, size s, room (c .before .before .before .before .before .before .before))) (refl, refl)
 
 open-requires : tie.Need-open-requires
 open-requires c κs =
-    let s = c .before .before .before .before .before .before .before .before .before .before .before .before .before .before .before .before .before .before .before .before .before .before .before .before in
-    let k = c .before .before .before .before .before .before .before .before .before .before .before .before in
+    let s = at-start (at-unpack-all (c .before .before .before .before .before)) in
+    let k = at-unpack-all (c .before .before .before .before .before) in
     let r = read (c .before .before .before .before .before) in
     let q = s .pre .1 .0 in (
       (s .pre .0 .0, residues-as (r .0) (f-is k) refl, residues-as (r .1) (inverse-is k) refl, residues-as (r .2) (c-is k) refl),
@@ -145,7 +156,7 @@ open-requires c κs =
 
 pack-requires : tie.Need-pack-requires
 pack-requires c κs =
-    let s = c .before .before .before .before .before .before .before .before .before .before .before .before .before .before .before .before .before .before .before .before .before .before .before .before .before .before .before .before .before .before .before in
+    let s = at-start (at-unpack-all (at-else1 (c .before .before .before .before .before .before))) in
     let e = R-is (c .before .before .before .before .before .before) in
     let m = ap length e ∙ R-residues s .long in
     (omega (arith, m), (omega (arith, m, s .pre .1 .1 .1), residues-as (R-residues s) e m))
@@ -171,11 +182,11 @@ same-length-9 c = search needs
 returns-2 : tie.Need-returns-2
 unfolding leaves openedMarks openedImage
 returns-2 c =
-    let s = c .before .before .before .before .before .before .before .before .before .before .before .before .before .before .before .before .before .before .before .before .before .before .before .before .before .before .before .before .before .before .before .before .before .before in
-    let k = c .before .before .before .before .before .before .before .before .before .before .before .before .before .before .before .before .before .before .before .before .before .before in
+    let s = at-start (at-unpack-all (at-else1 (c .before .before .before .before .before .before .before .before .before))) in
+    let k = at-unpack-all (at-else1 (c .before .before .before .before .before .before .before .before .before)) in
     let marks = c .before .before .before .before .before .before .before .before .before .open .last .1 .1 .1 .1 .1 .1 .0 in
     let image = c .before .before .pack .last .1 .0 in
-    X.in-range (Holds s marks image) (inputs s) (reply 0 0) (clear (c .before .before .before .before .before .before .before .before .before .before .before .before .before .before .before)) Done
+    X.in-range (Holds s marks image) (inputs s) (reply 0 0) (clear (at-else1 (c .before .before .before .before .before .before .before .before .before))) Done
     (X.done (Holds s marks image)
     (c .before .before .before .before .before .before .before .before .before .open .ensures .0 ∙ ap₂ (λ f c. map markOf (openedM (s .args .half) (powq generator (s .args .step)) f c)) (f-is k) (c-is k), c .before .before .pack .ensures ∙ ap packed (R-is (c .before .before .before .before .before .before .before .before .before))))
 

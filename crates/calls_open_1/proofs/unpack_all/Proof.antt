@@ -20,6 +20,20 @@ use Rattle.calls_open_1.proofs.KeyGroups.{through-halves}
 use Rattle.calls_open_1.proofs.unpack_all.Statement.{statement}
 use Rattle.calls_open_1.proofs.unpack_all.Tie as tie
 
+-- ---- earlier moments, each from a later one
+
+abbrev at-start : tie.After-unpack → tie.Start
+at-start c = c .before .before .before .before .before .before .before .before
+
+abbrev at-unpack : tie.After-unpack2 → tie.After-unpack
+at-unpack c = c .before .before .before .before .before
+
+abbrev at-unpack2 : tie.After-unpack3 → tie.After-unpack2
+at-unpack2 c = c .before .before .before .before
+
+abbrev at-unpack3 : tie.After-through → tie.After-unpack3
+at-unpack3 c = c .before .before .before
+
 -- ---- n, the ciphertext's groups and those of the key's halves, of the arguments
 
 abbrev n : tie.Start → ℕ
@@ -57,26 +71,26 @@ long-C s = length-groups (now (s .args .cipher)) ∙ omega (arith, s .pre .1 .1,
 
 -- ---- what is read and counted
 
-f-is : (c : tie.After-unpack) → (c .unpack .last .1 .0 ≡ F (c .before .before .before .before .before .before .before .before)) × (c .unpack .result ≡ firstLarge (F (c .before .before .before .before .before .before .before .before)))
+f-is : (c : tie.After-unpack) → (c .unpack .last .1 .0 ≡ F (at-start c)) × (c .unpack .result ≡ firstLarge (F (at-start c)))
 unfolding firstHalf
 f-is c = c .unpack .ensures
 
-inverse-is : (c : tie.After-unpack2) → (c .unpack2 .last .1 .0 ≡ K (c .before .before .before .before .before .before .before .before .before .before .before .before .before)) × (c .unpack2 .result ≡ firstLarge (K (c .before .before .before .before .before .before .before .before .before .before .before .before .before)))
+inverse-is : (c : tie.After-unpack2) → (c .unpack2 .last .1 .0 ≡ K (at-start (at-unpack c))) × (c .unpack2 .result ≡ firstLarge (K (at-start (at-unpack c))))
 unfolding secondHalf
 inverse-is c =
-    let l = private (c .before .before .before .before .before .before .before .before .before .before .before .before .before) in
+    let l = private (at-start (at-unpack c)) in
     let e = part-to-end l (length l / 2) in
     (c .unpack2 .ensures .0 ∙ ap groups e, c .unpack2 .ensures .1 ∙ ap (λ b. firstLarge (groups b)) e)
 
-third : (c : tie.After-unpack3) → c .unpack3 .result ≡ firstThrough tooLarge (C (c .before .before .before .before .before .before .before .before .before .before .before .before .before .before .before .before .before) ∷ [])
+third : (c : tie.After-unpack3) → c .unpack3 .result ≡ firstThrough tooLarge (C (at-start (at-unpack (at-unpack2 c))) ∷ [])
 unfolding firstLarge
-third c = c .unpack3 .ensures .1 ∙ sym (through-one tooLarge (C (c .before .before .before .before .before .before .before .before .before .before .before .before .before .before .before .before .before)))
+third c = c .unpack3 .ensures .1 ∙ sym (through-one tooLarge (C (at-start (at-unpack (at-unpack2 c)))))
 
-second : (c : tie.After-through) → c .through .result ≡ firstThrough tooLarge (K (c .before .before .before .before .before .before .before .before .before .before .before .before .before .before .before .before .before .before .before .before) ∷ C (c .before .before .before .before .before .before .before .before .before .before .before .before .before .before .before .before .before .before .before .before) ∷ [])
+second : (c : tie.After-through) → c .through .result ≡ firstThrough tooLarge (K (at-start (at-unpack (at-unpack2 (at-unpack3 c)))) ∷ C (at-start (at-unpack (at-unpack2 (at-unpack3 c)))) ∷ [])
 unfolding firstLarge
 second c =
-    let s = c .before .before .before .before .before .before .before .before .before .before .before .before .before .before .before .before .before .before .before .before in
-    counted tooLarge (K s) (C s ∷ []) (long-K s) (inverse-is (c .before .before .before .before .before .before .before) .1) (third (c .before .before .before)) (c .through .ensures)
+    let s = at-start (at-unpack (at-unpack2 (at-unpack3 c))) in
+    counted tooLarge (K s) (C s ∷ []) (long-K s) (inverse-is (at-unpack2 (at-unpack3 c)) .1) (third (at-unpack3 c)) (c .through .ensures)
 
 -- at most all places are counted
 within : (ls : List (List ℕ)) → firstThrough tooLarge ls ≤ length (flatten ls)
@@ -112,12 +126,12 @@ unpack-requires-3 c κs = search needs
 
 through-requires : tie.Need-through-requires
 through-requires c κs =
-    let s = c .before .before .before .before .before .before .before .before .before .before .before .before .before .before .before .before .before .before .before in
+    let s = at-start (at-unpack (at-unpack2 (c .before .before))) in
     omega (arith, third (c .before .before), within (C s ∷ []), length-one (C s), long-C s, s .pre .0)
 
 through-requires-2 : tie.Need-through-requires-2
 through-requires-2 c κs =
-    let s = c .before .before .before .before .before .before .before .before .before .before .before .before .before .before .before .before .before .before .before .before in
+    let s = at-start (at-unpack (at-unpack2 (at-unpack3 c))) in
     omega (arith, second c, within (K s ∷ C s ∷ []), length-through (K s) (C s ∷ []), length-one (C s), long-K s, long-C s, s .pre .0)
 
 same-length : tie.Need-same-length
@@ -132,10 +146,10 @@ same-length-3 c = search needs
 returns : tie.Need-returns
 unfolding firstLarge
 returns c =
-    let s = c .before .before .before .before .before .before .before .before .before .before .before .before .before .before .before .before .before .before .before .before .before in (
-      counted tooLarge (F s) (K s ∷ C s ∷ []) (long-F s) (f-is (c .before .before .before .before .before .before .before .before .before .before .before .before .before) .1) (second (c .before)) (c .through2 .ensures)
+    let s = at-start (at-unpack (at-unpack2 (at-unpack3 (c .before)))) in (
+      counted tooLarge (F s) (K s ∷ C s ∷ []) (long-F s) (f-is (at-unpack (at-unpack2 (at-unpack3 (c .before)))) .1) (second (c .before)) (c .through2 .ensures)
           ∙ through-halves (n s / 2) (private s) (s .pre .1 .0) tooLarge (C s ∷ []),
-      (f-is (c .before .before .before .before .before .before .before .before .before .before .before .before .before) .0, (inverse-is (c .before .before .before .before .before .before .before .before) .0, c .before .before .before .before .unpack3 .ensures .0)),
+      (f-is (at-unpack (at-unpack2 (at-unpack3 (c .before)))) .0, (inverse-is (at-unpack2 (at-unpack3 (c .before))) .0, at-unpack3 (c .before) .unpack3 .ensures .0)),
     )
 
 pub unpack-all-spec : {M : Type 1} → statement M

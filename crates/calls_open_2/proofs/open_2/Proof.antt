@@ -20,15 +20,26 @@ use Rattle.calls_open_2.proofs.OpenTwos.{fits, right, owed}
 use Rattle.calls_open_2.proofs.open_2.Statement.{statement}
 use Rattle.calls_open_2.proofs.open_2.Tie as tie
 
+-- ---- earlier moments, each from a later one
+
+abbrev at-start : tie.After-s → tie.Start
+at-start c = c .before .before .before .before .before .before
+
+abbrev at-s : tie.Else1 → tie.After-s
+at-s c = c .before .before .before
+
+abbrev at-else1 : tie.After-bits2 → tie.Else1
+at-else1 c = c .before .before
+
 -- ---- what is known where the set is, and where the lengths are right
 
 abbrev chosen : tie.After-s → Parameters
 chosen c = c .s .given .0 .0
 
-known : (c : tie.After-s) → setOf (c .before .before .before .before .before .before .args .set) ≡ Known (chosen c)
+known : (c : tie.After-s) → setOf (at-start c .args .set) ≡ Known (chosen c)
 known c = sym (c .before .before .set-of .ensures) ∙ c .s .given .1
 
-set : (c : tie.After-s) → IsSet (c .before .before .before .before .before .before .args .set) (chosen c)
+set : (c : tie.After-s) → IsSet (at-start c .args .set) (chosen c)
 set c = known-set _ _ (known c)
 
 -- n and 2n places are in the rooms
@@ -38,13 +49,13 @@ n-room c = set c .small
 bits-room : (c : tie.After-s) → chosen c .n + chosen c .n ≤ 2304
 bits-room c = omega (arith, set c .small)
 
-fit : (c : tie.Else1) → let s = c .before .before .before .before .before .before .before .before .before .args in
-    fits (length (now (s .marks))) (length (now (s .gblock))) (length (now (s .message))) (chosen (c .before .before .before)) ≡ true
+fit : (c : tie.Else1) → let s = at-start (at-s c) .args in
+    fits (length (now (s .marks))) (length (now (s .gblock))) (length (now (s .message))) (chosen (at-s c)) ≡ true
 fit c = sym (c .before .lengths .ensures) ∙ not-false _ (c .if1 .left)
 
-lengths : (c : tie.Else1) → let s = c .before .before .before .before .before .before .before .before .before .args in let p = chosen (c .before .before .before) in
+lengths : (c : tie.Else1) → let s = at-start (at-s c) .args in let p = chosen (at-s c) in
     (length (now (s .marks)) ≡ p .n) × (length (now (s .gblock)) ≡ p .gblock) × (length (now (s .message)) ≡ p .message)
-lengths c = let s = c .before .before .before .before .before .before .before .before .before .args in right (length (now (s .marks))) (length (now (s .gblock))) (length (now (s .message))) (chosen (c .before .before .before)) (fit c)
+lengths c = let s = at-start (at-s c) .args in right (length (now (s .marks))) (length (now (s .gblock))) (length (now (s .message))) (chosen (at-s c)) (fit c)
 
 -- ---- the needs
 
@@ -63,7 +74,7 @@ lengths-requires c κs = search needs
 returns : tie.Need-returns
 unfolding OpenTwo openTwoReply leaves
 returns c =
-    let s = c .before .before .before .before .before .before .before .before .before .args in
+    let s = at-start (c .before .before .before) .args in
     wrong-length _ (s .set) _ _ _ (known (c .before .before .before)) (sym (c .before .lengths .ensures) ∙ not-true _ (c .if1 .taken)) refl
 
 bits-requires : tie.Need-bits-requires
@@ -74,33 +85,33 @@ bits-requires-2 c κs = search needs
 
 array-borrow-prefix-bits : tie.Need-array-borrow-prefix-bits
 array-borrow-prefix-bits c =
-    omega (arith, n-room (c .before .before .before .before .before), c .before .bits .ensures)
+    omega (arith, n-room (at-s (at-else1 c)), c .before .bits .ensures)
 
 slice-aggregate-open-2-in : tie.Need-slice-aggregate-open-2-in
 slice-aggregate-open-2-in c =
-    sym (part-long _ 2304 _ (c .before .before .bits .ensures) (omega (arith, n-room (c .before .before .before .before .before .before))))
+    sym (part-long _ 2304 _ (c .before .before .bits .ensures) (omega (arith, n-room (at-s (at-else1 (c .before))))))
 
 add-halves : tie.Need-add-halves
 add-halves c =
-    omega (arith, n-room (c .before .before .before .before .before .before))
+    omega (arith, n-room (at-s (at-else1 (c .before))))
 
 array-borrow-prefix-halves : tie.Need-array-borrow-prefix-halves
 array-borrow-prefix-halves c =
-    omega (arith, bits-room (c .before .before .before .before .before .before), c .before .bits2 .ensures)
+    omega (arith, bits-room (at-s (at-else1 (c .before))), c .before .bits2 .ensures)
 
 slice-aggregate-open-2-in-2 : tie.Need-slice-aggregate-open-2-in-2
 slice-aggregate-open-2-in-2 c =
-    sym (part-long _ 2304 _ (c .before .before .bits2 .ensures) (bits-room (c .before .before .before .before .before .before .before)))
+    sym (part-long _ 2304 _ (c .before .before .bits2 .ensures) (bits-room (at-s (at-else1 (c .before .before)))))
 
 open-2-in-requires : tie.Need-open-2-in-requires
 open-2-in-requires c κs =
-    let i = set (c .before .before .before .before .before .before .before .before) in
-    let l = lengths (c .before .before .before .before .before) in
-    let n = n-room (c .before .before .before .before .before .before .before .before) in (
+    let i = set (at-s (at-else1 (c .before .before .before))) in
+    let l = lengths (at-else1 (c .before .before .before)) in
+    let n = n-room (at-s (at-else1 (c .before .before .before))) in (
       (omega (arith, l .2, i .words), omega (arith, l .0, l .2, i .whole, i .eighth), omega (arith, l .1, l .2, i .gblock)),
       (
-        part-long (chosen (c .before .before .before .before .before .before .before .before) .n) 2304 _ (c .before .before .before .before .bits .ensures) (omega (arith, n)) ∙ omega (arith, l .2, i .whole, i .eighth),
-        part-long _ 2304 _ (c .before .before .before .bits2 .ensures) (bits-room (c .before .before .before .before .before .before .before .before)) ∙ omega (arith, l .2, i .whole, i .eighth),
+        part-long (chosen (at-s (at-else1 (c .before .before .before))) .n) 2304 _ (c .before .before .before .before .bits .ensures) (omega (arith, n)) ∙ omega (arith, l .2, i .whole, i .eighth),
+        part-long _ 2304 _ (c .before .before .before .bits2 .ensures) (bits-room (at-s (at-else1 (c .before .before .before)))) ∙ omega (arith, l .2, i .whole, i .eighth),
       ),
     )
 
@@ -115,8 +126,8 @@ same-length c = search needs
 
 returns-3 : tie.Need-returns-3
 returns-3 c =
-    let s = c .before .before .before .before .before .before .before .before .before .before .before .before .before .before .before .before .before .before .before .args in
-    owed (now (s .marks)) (now (s .gblock)) (now (s .message)) _ (s .set) (chosen (c .before .before .before .before .before .before .before .before .before .before .before .before .before)) (known (c .before .before .before .before .before .before .before .before .before .before .before .before .before)) (fit (c .before .before .before .before .before .before .before .before .before .before)) _ (c .before .before .before .before .open-2-in .ensures)
+    let s = at-start (at-s (at-else1 (c .before .before .before .before .before .before .before .before))) .args in
+    owed (now (s .marks)) (now (s .gblock)) (now (s .message)) _ (s .set) (chosen (at-s (at-else1 (c .before .before .before .before .before .before .before .before)))) (known (at-s (at-else1 (c .before .before .before .before .before .before .before .before)))) (fit (at-else1 (c .before .before .before .before .before .before .before .before))) _ (c .before .before .before .before .open-2-in .ensures)
 
 pub open-2-spec : {M : Type 1} → statement M
 open-2-spec =

@@ -25,6 +25,20 @@ use Rattle.calls_open_3.proofs.OpenThrees as O
 use Rattle.calls_open_3.proofs.open_3_in.Statement.{statement}
 use Rattle.calls_open_3.proofs.open_3_in.Tie as tie
 
+-- ---- earlier moments, each from a later one
+
+abbrev at-start : tie.After-unpack → tie.Start
+at-start c = c .before .before .before .before .before .before .before
+
+abbrev at-unpack : tie.Else1 → tie.After-unpack
+at-unpack c = c .before .before .before
+
+abbrev at-else1 : tie.After-r-image → tie.Else1
+at-else1 c = c .before .before
+
+abbrev at-r-image : tie.After-same → tie.After-r-image
+at-r-image c = c .before .before .before .before .before
+
 -- ---- the lent image and that of r, of the arguments
 
 abbrev lent : tie.Start → List ℕ
@@ -42,15 +56,15 @@ Holds s = O.Holds (now (s .args .image)) (now (s .args .hblock)) (now (s .args .
 
 -- ---- what is found in them
 
-place : (c : tie.After-unpack) → c .unpack .result ≡ firstThrough tooLarge (lent (c .before .before .before .before .before .before .before) ∷ [])
+place : (c : tie.After-unpack) → c .unpack .result ≡ firstThrough tooLarge (lent (at-start c) ∷ [])
 unfolding firstLarge
-place c = c .unpack .ensures .1 ∙ sym (through-one tooLarge (lent (c .before .before .before .before .before .before .before)))
+place c = c .unpack .ensures .1 ∙ sym (through-one tooLarge (lent (at-start c)))
 
-clear : (c : tie.Else1) → length (flatten (lent (c .before .before .before .before .before .before .before .before .before .before) ∷ [])) ≤ firstThrough tooLarge (lent (c .before .before .before .before .before .before .before .before .before .before) ∷ [])
-clear c = omega (arith, c .if1 .left, place (c .before .before .before), length-one (lent (c .before .before .before .before .before .before .before .before .before .before)), ap length (c .before .before .before .unpack .ensures .0))
+clear : (c : tie.Else1) → length (flatten (lent (at-start (at-unpack c)) ∷ [])) ≤ firstThrough tooLarge (lent (at-start (at-unpack c)) ∷ [])
+clear c = omega (arith, c .if1 .left, place (at-unpack c), length-one (lent (at-start (at-unpack c))), ap length (at-unpack c .unpack .ensures .0))
 
-same-is : (c : tie.After-same) → c .same .result ≡ equal (lent (c .before .before .before .before .before .before .before .before .before .before .before .before .before .before .before .before .before)) (R (c .before .before .before .before .before .before .before .before .before .before .before .before .before .before .before .before .before))
-same-is c = c .same .ensures ∙ ap₂ equal (c .before .before .before .before .before .before .before .before .before .before .unpack .ensures .0) (c .before .before .before .before .before .r-image .ensures)
+same-is : (c : tie.After-same) → c .same .result ≡ equal (lent (at-start (at-unpack (at-else1 (at-r-image c))))) (R (at-start (at-unpack (at-else1 (at-r-image c)))))
+same-is c = c .same .ensures ∙ ap₂ equal (at-unpack (at-else1 (at-r-image c)) .unpack .ensures .0) (at-r-image c .r-image .ensures)
 
 -- so what is owed once no group is too large
 owed : (s : tie.Start) (key : List ℕ) → length (flatten (lent s ∷ [])) ≤ firstThrough tooLarge (lent s ∷ [])
@@ -70,7 +84,7 @@ same-length c = search needs
 returns : tie.Need-returns
 unfolding leaves
 returns c =
-    let s = c .before .before .before .before .before .before .before .before .before .before in
+    let s = at-start (c .before .before .before) in
     X.too-large (Holds s (now (s .args .key))) (lent s ∷ []) (compared s) _ (place (c .before .before .before))
     (omega (arith, c .if1 .taken, length-one (lent s), ap length (c .before .before .before .unpack .ensures .0))) refl
 
@@ -89,8 +103,8 @@ same-length-3 c = search needs
 returns-2 : tie.Need-returns-2
 unfolding leaves
 returns-2 c =
-    let s = c .before .before .before .before .before .before .before .before .before .before .before .before .before .before .before .before .before .before in
-    owed s (now (s .args .key)) (clear (c .before .before .before .before .before .before .before .before)) false (sym (same-is (c .before)) ∙ not-true _ (c .if2 .taken)) Differs
+    let s = at-start (at-unpack (at-else1 (at-r-image (c .before)))) in
+    owed s (now (s .args .key)) (clear (at-else1 (at-r-image (c .before)))) false (sym (same-is (c .before)) ∙ not-true _ (c .if2 .taken)) Differs
     (record { number = refl; place = refl; content = refl })
 
 copy-key-requires : tie.Need-copy-key-requires
@@ -108,8 +122,8 @@ same-length-6 c = search needs
 returns-3 : tie.Need-returns-3
 unfolding leaves
 returns-3 c =
-    let s = c .before .before .before .before .before .before .before .before .before .before .before .before .before .before .before .before .before .before .before .before .before .before in
-    owed s _ (clear (c .before .before .before .before .before .before .before .before .before .before .before .before)) true (sym (same-is (c .before .before .before .before .before)) ∙ not-false _ (c .before .before .before .before .if2 .left)) Done
+    let s = at-start (at-unpack (at-else1 (at-r-image (c .before .before .before .before .before)))) in
+    owed s _ (clear (at-else1 (at-r-image (c .before .before .before .before .before)))) true (sym (same-is (c .before .before .before .before .before)) ∙ not-false _ (c .before .before .before .before .if2 .left)) Done
     (X.done (Holds s _) (c .before .before .copy-key .ensures))
 
 pub open-3-in-spec : {M : Type 1} → statement M

@@ -46,50 +46,50 @@ Holds s l R = l ≡ leaves R (productOf (s .args .set) (now (s .args .a)) (now (
 
 -- ---- what is known where the set is, where the lengths are right, and where no number is large
 
-abbrev start : tie.After-s → tie.Start
-start c = c .before .before .before .before .before .before
+abbrev at-start : tie.After-s → tie.Start
+at-start c = c .before .before .before .before .before .before
 
 abbrev chosen : tie.After-s → Parameters
 chosen c = c .s .given .0 .0
 
-known : (c : tie.After-s) → setOf (start c .args .set) ≡ Known (chosen c)
+known : (c : tie.After-s) → setOf (at-start c .args .set) ≡ Known (chosen c)
 known c = sym (c .before .before .set-of .ensures) ∙ c .s .given .1
 
-set : (c : tie.After-s) → IsSet (start c .args .set) (chosen c)
+set : (c : tie.After-s) → IsSet (at-start c .args .set) (chosen c)
 set c = known-set _ _ (known c)
 
-abbrev parameters : tie.Else1 → tie.After-s
-parameters c = c .before .before .before
+abbrev at-s : tie.Else1 → tie.After-s
+at-s c = c .before .before .before
 
-fit : (c : tie.Else1) → fits (start (parameters c)) (chosen (parameters c)) ≡ true
+fit : (c : tie.Else1) → fits (at-start (at-s c)) (chosen (at-s c)) ≡ true
 fit c = sym (c .before .lengths .ensures) ∙ not-false _ (c .if1 .left)
 
-lengths : (c : tie.Else1) → let s = start (parameters c) in let n = chosen (parameters c) .n in
+lengths : (c : tie.Else1) → let s = at-start (at-s c) in let n = chosen (at-s c) .n in
     (length (now (s .args .a)) ≡ n) × (length (now (s .args .b)) ≡ n) × (length (now (s .args .out)) ≡ n)
 lengths c =
-    let n = chosen (parameters c) .n in
+    let n = chosen (at-s c) .n in
     let a = first-length _ n _ (fit c) in
     let b = first-length _ n _ (a .1) in
     (a .0, b .0, eqb-true _ n (b .1))
 
-long : (c : tie.Else1) → length (flatten (inputs (start (parameters c)))) ≡ chosen (parameters c) .n + chosen (parameters c) .n
+long : (c : tie.Else1) → length (flatten (inputs (at-start (at-s c)))) ≡ chosen (at-s c) .n + chosen (at-s c) .n
 long c =
-    let s = start (parameters c) in
+    let s = at-start (at-s c) in
     omega (arith, lengths c, length-through (now (s .args .a)) (now (s .args .b) ∷ []), length-one (now (s .args .b)))
 
-place : (c : tie.After-through) → c .through .result ≡ firstThrough tooLarge (inputs (start (parameters (c .before .before .before))))
+place : (c : tie.After-through) → c .through .result ≡ firstThrough tooLarge (inputs (at-start (at-s (c .before .before .before))))
 unfolding firstLarge
 place c =
     let e = c .before .before .before in
-    let s = start (parameters e) in
+    let s = at-start (at-s e) in
     counted tooLarge (now (s .args .a)) (now (s .args .b) ∷ []) (lengths e .0) (c .before .before .first-large .ensures)
     (c .before .first-large2 .ensures ∙ sym (through-one tooLarge (now (s .args .b)))) (c .through .ensures)
 
-abbrev measured : tie.Else2 → tie.Else1
-measured c = c .before .before .before .before .before
+abbrev at-else1 : tie.Else2 → tie.Else1
+at-else1 c = c .before .before .before .before .before
 
-clear : (c : tie.Else2) → length (flatten (inputs (start (parameters (measured c))))) ≤ firstThrough tooLarge (inputs (start (parameters (measured c))))
-clear c = omega (arith, long (measured c), place (c .before .before), c .if2 .left)
+clear : (c : tie.Else2) → length (flatten (inputs (at-start (at-s (at-else1 c))))) ≤ firstThrough tooLarge (inputs (at-start (at-s (at-else1 c))))
+clear c = omega (arith, long (at-else1 c), place (c .before .before), c .if2 .left)
 
 -- ---- the needs
 
@@ -109,7 +109,7 @@ returns : tie.Need-returns
 unfolding Product productReply leaves
 returns c =
     let k = c .before .before .before in
-    let s = start k in
+    let s = at-start k in
     wrong-length (Holds s (now (s .args .out))) (s .args .set) (fits s) (rest s) (chosen k) (known k)
     (sym (c .before .lengths .ensures) ∙ not-true _ (c .if1 .taken)) refl
 
@@ -123,27 +123,27 @@ through-requires : tie.Need-through-requires
 unfolding firstLarge
 through-requires c κs =
     let e = c .before .before in
-    let k = parameters e in
-    omega (arith, set k .small, lengths e, c .first-large2 .ensures, first-within tooLarge (now (start k .args .b)))
+    let k = at-s e in
+    omega (arith, set k .small, lengths e, c .first-large2 .ensures, first-within tooLarge (now (at-start k .args .b)))
 
 add-if2 : tie.Need-add-if2
-add-if2 c = omega (arith, set (parameters (c .before .before .before .before)) .small)
+add-if2 c = omega (arith, set (at-s (c .before .before .before .before)) .small)
 
 returns-2 : tie.Need-returns-2
 unfolding Product productReply leaves
 returns-2 c =
     let e = c .before .before .before .before .before in
-    let k = parameters e in
-    let s = start k in
+    let k = at-s e in
+    let s = at-start k in
     right-lengths (Holds s (now (s .args .out))) (s .args .set) (fits s) (rest s) (chosen k) (known k) (fit e) _
     (too-large (Holds s (now (s .args .out))) (inputs s) (reply 0 0) _ (place (c .before .before)) (omega (arith, c .if2 .taken, long e)) refl)
 
 product-requires : tie.Need-product-requires
 product-requires c κs =
     let e = c .before in
-    let k = parameters (measured e) in
-    let s = start k in
-    let l = lengths (measured e) in
+    let k = at-s (at-else1 e) in
+    let s = at-start k in
+    let l = lengths (at-else1 e) in
     let n = chosen k .half + chosen k .half in
     let whole = set k .whole in
     let first : Residues n (now (s .args .a)) = residues-through (now (s .args .a)) (now (s .args .b) ∷ []) (l .0 ∙ whole) (clear e) in
@@ -164,10 +164,10 @@ returns-4 : tie.Need-returns-4
 unfolding Product productReply productOf leaves
 returns-4 c =
     let e = c .before .before .before .before in
-    let k = parameters (measured e) in
-    let s = start k in
+    let k = at-s (at-else1 e) in
+    let s = at-start k in
     let l = c .before .before .product .last .1 .1 .1 .0 in
-    right-lengths (Holds s l) (s .args .set) (fits s) (rest s) (chosen k) (known k) (fit (measured e)) _
+    right-lengths (Holds s l) (s .args .set) (fits s) (rest s) (chosen k) (known k) (fit (at-else1 e)) _
     (in-range (Holds s l) (inputs s) (reply 0 0) (clear e) _
     (done (Holds s l)
     (c .before .before .product .ensures

@@ -20,28 +20,39 @@ use Rattle.calls_r_image.proofs.RImages.{fits, right, owed}
 use Rattle.calls_r_image.proofs.r_image.Statement.{statement}
 use Rattle.calls_r_image.proofs.r_image.Tie as tie
 
+-- ---- earlier moments, each from a later one
+
+abbrev at-start : tie.After-s → tie.Start
+at-start c = c .before .before .before .before .before
+
+abbrev at-s : tie.Else1 → tie.After-s
+at-s c = c .before .before .before .before .before
+
+abbrev at-else1 : tie.After-numbers → tie.Else1
+at-else1 c = c .before .before
+
 -- ---- what is known where the set is, and where the lengths are right
 
 abbrev chosen : tie.After-s → Parameters
 chosen c = c .s .given .0 .0
 
-known : (c : tie.After-s) → setOf (c .before .before .before .before .before .args .set) ≡ Known (chosen c)
+known : (c : tie.After-s) → setOf (at-start c .args .set) ≡ Known (chosen c)
 known c = sym (c .before .before .set-of .ensures) ∙ c .s .given .1
 
-set : (c : tie.After-s) → IsSet (c .before .before .before .before .before .args .set) (chosen c)
+set : (c : tie.After-s) → IsSet (at-start c .args .set) (chosen c)
 set c = known-set _ _ (known c)
 
 -- n places are in a room for numbers
 n-room : (c : tie.After-s) → chosen c .n ≤ 1152
 n-room c = set c .small
 
-fit : (c : tie.Else1) → let s = c .before .before .before .before .before .before .before .before .before .before .args in
-    fits (length (now (s .hblock))) (length (now (s .image))) (chosen (c .before .before .before .before .before)) ≡ true
+fit : (c : tie.Else1) → let s = at-start (at-s c) .args in
+    fits (length (now (s .hblock))) (length (now (s .image))) (chosen (at-s c)) ≡ true
 fit c = sym (c .before .both .ensures) ∙ not-false _ (c .if1 .left)
 
-lengths : (c : tie.Else1) → let s = c .before .before .before .before .before .before .before .before .before .before .args in let p = chosen (c .before .before .before .before .before) in
+lengths : (c : tie.Else1) → let s = at-start (at-s c) .args in let p = chosen (at-s c) in
     (length (now (s .hblock)) ≡ p .hblock) × (length (now (s .image)) ≡ p .packed)
-lengths c = let s = c .before .before .before .before .before .before .before .before .before .before .args in right (length (now (s .hblock))) (length (now (s .image))) (chosen (c .before .before .before .before .before)) (fit c)
+lengths c = let s = at-start (at-s c) .args in right (length (now (s .hblock))) (length (now (s .image))) (chosen (at-s c)) (fit c)
 
 -- ---- the needs
 
@@ -60,7 +71,7 @@ both-requires c κs = search needs
 returns : tie.Need-returns
 unfolding RImage rImageReply leaves
 returns c =
-    let s = c .before .before .before .before .before .before .before .before .before .before .args in
+    let s = at-start (c .before .before .before .before .before) .args in
     wrong-length _ (s .set) _ _ _ (known (c .before .before .before .before .before)) (sym (c .before .both .ensures) ∙ not-true _ (c .if1 .taken)) refl
 
 powers-requires : tie.Need-powers-requires
@@ -71,17 +82,17 @@ numbers-requires c κs = search needs
 
 array-borrow-prefix-r : tie.Need-array-borrow-prefix-r
 array-borrow-prefix-r c =
-    omega (arith, n-room (c .before .before .before .before .before .before .before .before), c .before .numbers .ensures)
+    omega (arith, n-room (at-s (at-else1 (c .before))), c .before .numbers .ensures)
 
 slice-aggregate-r-image-in : tie.Need-slice-aggregate-r-image-in
 slice-aggregate-r-image-in c =
-    sym (part-long _ 1152 _ (c .before .before .numbers .ensures) (n-room (c .before .before .before .before .before .before .before .before .before)))
+    sym (part-long _ 1152 _ (c .before .before .numbers .ensures) (n-room (at-s (at-else1 (c .before .before)))))
 
 r-image-in-requires : tie.Need-r-image-in-requires
 r-image-in-requires c κs =
-    let i = set (c .before .before .before .before .before .before .before .before .before .before) in
-    let l = lengths (c .before .before .before .before .before) in
-    let n = n-room (c .before .before .before .before .before .before .before .before .before .before) in (
+    let i = set (at-s (at-else1 (c .before .before .before))) in
+    let l = lengths (at-else1 (c .before .before .before)) in
+    let n = n-room (at-s (at-else1 (c .before .before .before))) in (
       (record { turns = i .turns; table = c .before .before .before .before .powers .ensures }, omega (arith, i .eighth, i .words), omega (arith, l .0, i .hblock, i .gblock, i .eighth)),
       (part-long _ 1152 _ (c .before .before .before .numbers .ensures) n ∙ i .whole, l .1 ∙ i .packed),
     )
@@ -97,8 +108,8 @@ same-length c = search needs
 
 returns-3 : tie.Need-returns-3
 returns-3 c =
-    let s = c .before .before .before .before .before .before .before .before .before .before .before .before .before .before .before .before .before .before .before .args in
-    owed (now (s .hblock)) (now (s .image)) _ (s .set) (chosen (c .before .before .before .before .before .before .before .before .before .before .before .before .before .before)) (known (c .before .before .before .before .before .before .before .before .before .before .before .before .before .before)) (fit (c .before .before .before .before .before .before .before .before .before)) (c .before .before .before .r-image-in .ensures)
+    let s = at-start (at-s (at-else1 (c .before .before .before .before .before .before .before))) .args in
+    owed (now (s .hblock)) (now (s .image)) _ (s .set) (chosen (at-s (at-else1 (c .before .before .before .before .before .before .before)))) (known (at-s (at-else1 (c .before .before .before .before .before .before .before)))) (fit (at-else1 (c .before .before .before .before .before .before .before))) (c .before .before .before .r-image-in .ensures)
 
 pub r-image-spec : {M : Type 1} → statement M
 r-image-spec =

@@ -14,6 +14,11 @@ use Rattle.stages.proofs.ImageLaws.{residues-as, imageOf-residues}
 use Rattle.calls_r_image.proofs.r_image_in.Statement.{statement}
 use Rattle.calls_r_image.proofs.r_image_in.Tie as tie
 
+-- ---- earlier moments, each from a later one
+
+abbrev at-start : tie.After-r-image → tie.Start
+at-start c = c .before .before .before .before .before
+
 R-residues : (s : tie.Start) → Residues (s .args .half + s .args .half) (rImage (s .args .half) (powq generator (s .args .step)) (now (s .args .hblock)))
 unfolding rImage
 R-residues s = imageOf-residues (s .args .half) (powq generator (s .args .step)) (smallR (now (s .args .hblock)))
@@ -25,7 +30,7 @@ r-image-requires c κs = search needs
 
 pack-requires : tie.Need-pack-requires
 pack-requires c κs =
-    let s = c .before .before .before .before .before .before .before .before .before in
+    let s = at-start (c .before .before .before .before) in
     let e = c .before .before .before .before .r-image .ensures in
     let n = ap length e ∙ R-residues s .long in
     (omega (arith, n), (omega (arith, n, s .pre .1 .1), residues-as (R-residues s) e n))

@@ -17,16 +17,24 @@ use Rattle.calls_seal.proofs.Seals.{fits, right, owed}
 use Rattle.calls_seal.proofs.seal.Statement.{statement}
 use Rattle.calls_seal.proofs.seal.Tie as tie
 
+-- ---- earlier moments, each from a later one
+
+abbrev at-start : tie.After-s → tie.Start
+at-start c = c .before .before .before .before .before .before .before .before .before
+
+abbrev at-s : tie.Else1 → tie.After-s
+at-s c = c .before .before .before
+
 -- ---- what is known where the set is, and where the lengths are right
 
 abbrev chosen : tie.After-s → Parameters
 chosen c = c .s .given .0 .0
 
-known : (c : tie.After-s) → setOf (c .before .before .before .before .before .before .before .before .before .args .set) ≡ Known (chosen c)
+known : (c : tie.After-s) → setOf (at-start c .args .set) ≡ Known (chosen c)
 known c = sym (c .before .before .set-of .ensures) ∙ c .s .given .1
 
-fit : (c : tie.Else1) → let s = c .before .before .before .before .before .before .before .before .before .before .before .before .args in
-    fits (length (now (s .public))) (length (now (s .message))) (length (now (s .hblock))) (length (now (s .gblock))) (length (now (s .cipher))) (length (now (s .key))) (chosen (c .before .before .before)) ≡ true
+fit : (c : tie.Else1) → let s = at-start (at-s c) .args in
+    fits (length (now (s .public))) (length (now (s .message))) (length (now (s .hblock))) (length (now (s .gblock))) (length (now (s .cipher))) (length (now (s .key))) (chosen (at-s c)) ≡ true
 fit c = sym (c .before .lengths .ensures) ∙ not-false _ (c .if1 .left)
 
 -- ---- the needs
@@ -46,14 +54,14 @@ lengths-requires c κs = search needs
 returns : tie.Need-returns
 unfolding Seal sealReply leaves
 returns c =
-    let s = c .before .before .before .before .before .before .before .before .before .before .before .before .args in
+    let s = at-start (c .before .before .before) .args in
     wrong-length _ (s .set) _ _ _ (known (c .before .before .before)) (sym (c .before .lengths .ensures) ∙ not-true _ (c .if1 .taken)) (refl, refl)
 
 seal-known-requires : tie.Need-seal-known-requires
 seal-known-requires c κs =
-    let s = c .before .before .before .before .before .before .before .before .before .before .before .before .before .before .args in
-    let p = chosen (c .before .before .before .before .before) in (
-      ap setOf (known-set (s .set) p (known (c .before .before .before .before .before)) .size) ∙ known (c .before .before .before .before .before),
+    let s = at-start (at-s (c .before .before)) .args in
+    let p = chosen (at-s (c .before .before)) in (
+      ap setOf (known-set (s .set) p (known (at-s (c .before .before))) .size) ∙ known (at-s (c .before .before)),
       right (length (now (s .public))) (length (now (s .message))) (length (now (s .hblock))) (length (now (s .gblock))) (length (now (s .cipher))) (length (now (s .key))) p (fit (c .before .before)),
     )
 
@@ -69,8 +77,8 @@ same-length-2 c = search needs
 
 returns-3 : tie.Need-returns-3
 returns-3 c =
-    let s = c .before .before .before .before .before .before .before .before .before .before .before .before .before .before .before .before .before .before .before .args in
-    owed (now (s .public)) (now (s .message)) (now (s .hblock)) (now (s .gblock)) (now (s .cipher)) (now (s .key)) _ _ (s .set) (chosen (c .before .before .before .before .before .before .before .before .before .before)) (known (c .before .before .before .before .before .before .before .before .before .before)) (fit (c .before .before .before .before .before .before .before)) _ (c .before .before .before .before .seal-known .ensures)
+    let s = at-start (at-s (c .before .before .before .before .before .before .before)) .args in
+    owed (now (s .public)) (now (s .message)) (now (s .hblock)) (now (s .gblock)) (now (s .cipher)) (now (s .key)) _ _ (s .set) (chosen (at-s (c .before .before .before .before .before .before .before))) (known (at-s (c .before .before .before .before .before .before .before))) (fit (c .before .before .before .before .before .before .before)) _ (c .before .before .before .before .seal-known .ensures)
 
 pub seal-spec : {M : Type 1} → statement M
 seal-spec =

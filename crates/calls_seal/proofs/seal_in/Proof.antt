@@ -26,6 +26,20 @@ use Rattle.calls_seal.proofs.Seals as S
 use Rattle.calls_seal.proofs.seal_in.Statement.{statement}
 use Rattle.calls_seal.proofs.seal_in.Tie as tie
 
+-- ---- earlier moments, each from a later one
+
+abbrev at-start : tie.After-unpack → tie.Start
+at-start c = c .before .before .before .before .before .before .before .before .before .before .before .before
+
+abbrev at-unpack : tie.Else1 → tie.After-unpack
+at-unpack c = c .before .before .before
+
+abbrev at-else1 : tie.After-sealed-image → tie.Else1
+at-else1 c = c .before .before .before .before .before
+
+abbrev at-sealed-image : tie.After-pack → tie.After-sealed-image
+at-sealed-image c = c .before .before .before .before .before .before .before .before .before
+
 -- ---- the groups of the public key and the image that is packed, of the arguments
 
 abbrev inputs : tie.Start → List (List ℕ)
@@ -51,24 +65,24 @@ Holds s cipher key =
 
 -- ---- what is found in them, and written
 
-place : (c : tie.After-unpack) → c .unpack .result ≡ firstThrough tooLarge (inputs (c .before .before .before .before .before .before .before .before .before .before .before .before))
+place : (c : tie.After-unpack) → c .unpack .result ≡ firstThrough tooLarge (inputs (at-start c))
 unfolding firstLarge
-place c = c .unpack .ensures .1 ∙ sym (through-one tooLarge (groups (now (c .before .before .before .before .before .before .before .before .before .before .before .before .args .public))))
+place c = c .unpack .ensures .1 ∙ sym (through-one tooLarge (groups (now (at-start c .args .public))))
 
-clear : (c : tie.Else1) → length (flatten (inputs (c .before .before .before .before .before .before .before .before .before .before .before .before .before .before .before))) ≤ firstThrough tooLarge (inputs (c .before .before .before .before .before .before .before .before .before .before .before .before .before .before .before))
+clear : (c : tie.Else1) → length (flatten (inputs (at-start (at-unpack c)))) ≤ firstThrough tooLarge (inputs (at-start (at-unpack c)))
 clear c =
-    omega (arith, c .if1 .left, place (c .before .before .before), length-one (groups (now (c .before .before .before .before .before .before .before .before .before .before .before .before .before .before .before .args .public))), ap length (c .before .before .before .unpack .ensures .0))
+    omega (arith, c .if1 .left, place (at-unpack c), length-one (groups (now (at-start (at-unpack c) .args .public))), ap length (at-unpack c .unpack .ensures .0))
 
-h-residues : (c : tie.Else1) → Residues (c .before .before .before .before .before .before .before .before .before .before .before .before .before .before .before .args .half + c .before .before .before .before .before .before .before .before .before .before .before .before .before .before .before .args .half) (c .before .before .before .unpack .last .1 .0)
+h-residues : (c : tie.Else1) → Residues (at-start (at-unpack c) .args .half + at-start (at-unpack c) .args .half) (at-unpack c .unpack .last .1 .0)
 h-residues c =
-    residues-as (residues-through (groups (now (c .before .before .before .before .before .before .before .before .before .before .before .before .before .before .before .args .public))) [] (long (c .before .before .before .before .before .before .before .before .before .before .before .before .before .before .before)) (clear c)) (c .before .before .before .unpack .ensures .0) refl
+    residues-as (residues-through (groups (now (at-start (at-unpack c) .args .public))) [] (long (at-start (at-unpack c))) (clear c)) (at-unpack c .unpack .ensures .0) refl
 
-cipher-is : (c : tie.After-sealed-image) → c .sealed-image .last .1 .1 .1 .1 .1 .1 .1 .1 .1 .0 ≡ sealed (c .before .before .before .before .before .before .before .before .before .before .before .before .before .before .before .before .before .before .before .before)
+cipher-is : (c : tie.After-sealed-image) → c .sealed-image .last .1 .1 .1 .1 .1 .1 .1 .1 .1 .0 ≡ sealed (at-start (at-unpack (at-else1 c)))
 cipher-is c =
-    let s = c .before .before .before .before .before .before .before .before .before .before .before .before .before .before .before .before .before .before .before .before in
+    let s = at-start (at-unpack (at-else1 c)) in
     c .sealed-image .ensures
     ∙ ap (λ h. sealedImage (s .args .half) (powq generator (s .args .step)) h (smallR (now (s .args .hblock))) (encoded (now (s .args .message)) (now (s .args .gblock))))
-    (c .before .before .before .before .before .before .before .before .unpack .ensures .0)
+    (at-unpack (at-else1 c) .unpack .ensures .0)
 
 -- ---- the needs
 
@@ -81,27 +95,27 @@ same-length c = search needs
 returns : tie.Need-returns
 unfolding leaves
 returns c =
-    let s = c .before .before .before .before .before .before .before .before .before .before .before .before .before .before .before in
+    let s = at-start (c .before .before .before) in
     X.too-large (Holds s (now (s .args .cipher)) (now (s .args .key))) (inputs s) (reply 0 0) _ (place (c .before .before .before))
     (omega (arith, c .if1 .taken, length-one (groups (now (s .args .public))), ap length (c .before .before .before .unpack .ensures .0))) (refl, refl)
 
 sealed-image-requires : tie.Need-sealed-image-requires
 sealed-image-requires c κs =
-    let s = c .before .before .before .before .before .before .before .before .before .before .before .before .before .before .before .before .before .before .before in
+    let s = at-start (at-unpack (c .before .before .before .before)) in
     let p = s .pre .0 in
     let q = s .pre .1 .0 in
     ((p .0, h-residues (c .before .before .before .before), p .2, p .3, p .4, p .5), (q .1, q .2, q .3))
 
 pack-requires : tie.Need-pack-requires
 pack-requires c κs =
-    let s = c .before .before .before .before .before .before .before .before .before .before .before .before .before .before .before .before .before .before .before .before .before .before .before .before .before .before .before .before in
+    let s = at-start (at-unpack (at-else1 (c .before .before .before .before .before .before .before .before))) in
     let e = cipher-is (c .before .before .before .before .before .before .before .before) in
     let n = ap length e ∙ sealed-residues s .long in
     (omega (arith, n), (omega (arith, n, s .pre .1 .1 .0), residues-as (sealed-residues s) e n))
 
 copy-key-requires : tie.Need-copy-key-requires
 copy-key-requires c κs =
-    (c .before .before .before .before .before .before .before .before .before .before .before .before .before .before .before .before .before .before .before .before .before .before .before .before .before .before .before .before .before .before .before .before .pre .1 .1 .1, omega (arith, c .before .before .before .before .before .before .before .before .before .before .before .before .before .before .before .before .before .before .before .before .before .before .before .before .before .before .before .before .before .before .before .before .pre .0 .4))
+    (at-start (at-unpack (at-else1 (at-sealed-image (c .before .before .before)))) .pre .1 .1 .1, omega (arith, at-start (at-unpack (at-else1 (at-sealed-image (c .before .before .before)))) .pre .0 .4))
 
 same-length-2 : tie.Need-same-length-2
 same-length-2 c = search needs
@@ -124,11 +138,11 @@ same-length-7 c = search needs
 returns-2 : tie.Need-returns-2
 unfolding leaves ciphertext
 returns-2 c =
-    let s = c .before .before .before .before .before .before .before .before .before .before .before .before .before .before .before .before .before .before .before .before .before .before .before .before .before .before .before .before .before .before .before .before .before .before .before in
+    let s = at-start (at-unpack (at-else1 (at-sealed-image (c .before .before .before .before .before .before)))) in
     let cipher = c .before .before .before .before .before .before .pack .last .1 .0 in
     let key = c .before .before .copy-key .last .1 .0 in
-    X.in-range (Holds s cipher key) (inputs s) (reply 0 0) (clear (c .before .before .before .before .before .before .before .before .before .before .before .before .before .before .before .before .before .before .before .before)) Done
-    (X.done (Holds s cipher key) (c .before .before .before .before .before .before .pack .ensures ∙ ap packed (cipher-is (c .before .before .before .before .before .before .before .before .before .before .before .before .before .before .before)), c .before .before .copy-key .ensures))
+    X.in-range (Holds s cipher key) (inputs s) (reply 0 0) (clear (at-else1 (at-sealed-image (c .before .before .before .before .before .before)))) Done
+    (X.done (Holds s cipher key) (c .before .before .before .before .before .before .pack .ensures ∙ ap packed (cipher-is (at-sealed-image (c .before .before .before .before .before .before))), c .before .before .copy-key .ensures))
 
 pub seal-in-spec : {M : Type 1} → statement M
 seal-in-spec =

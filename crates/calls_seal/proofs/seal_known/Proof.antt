@@ -9,6 +9,11 @@ use Rattle.answers.proofs.SetLaws.{IsSet, known-set}
 use Rattle.calls_seal.proofs.seal_known.Statement.{statement}
 use Rattle.calls_seal.proofs.seal_known.Tie as tie
 
+-- ---- earlier moments, each from a later one
+
+abbrev at-start : tie.After-numbers4 → tie.Start
+at-start c = c .before .before .before .before .before .before .before .before .before .before .before
+
 -- ---- what is known of the set
 
 set : (s : tie.Start) → IsSet (s .args .s .n) (s .args .s)
@@ -36,34 +41,34 @@ numbers-requires-4 : tie.Need-numbers-requires-4
 numbers-requires-4 c κs = search needs
 
 array-borrow-prefix-h : tie.Need-array-borrow-prefix-h
-array-borrow-prefix-h c = omega (arith, n-room (c .before .before .before .before .before .before .before .before .before .before .before .before), c .before .before .before .before .numbers .ensures)
+array-borrow-prefix-h c = omega (arith, n-room (at-start (c .before)), c .before .before .before .before .numbers .ensures)
 
 slice-aggregate-seal-in : tie.Need-slice-aggregate-seal-in
-slice-aggregate-seal-in c = sym (part-long _ 1152 _ (c .before .before .before .before .before .numbers .ensures) (n-room (c .before .before .before .before .before .before .before .before .before .before .before .before .before)))
+slice-aggregate-seal-in c = sym (part-long _ 1152 _ (c .before .before .before .before .before .numbers .ensures) (n-room (at-start (c .before .before))))
 
 array-borrow-prefix-p : tie.Need-array-borrow-prefix-p
-array-borrow-prefix-p c = omega (arith, n-room (c .before .before .before .before .before .before .before .before .before .before .before .before .before), c .before .before .before .before .numbers2 .ensures)
+array-borrow-prefix-p c = omega (arith, n-room (at-start (c .before .before)), c .before .before .before .before .numbers2 .ensures)
 
 slice-aggregate-seal-in-2 : tie.Need-slice-aggregate-seal-in-2
-slice-aggregate-seal-in-2 c = sym (part-long _ 1152 _ (c .before .before .before .before .before .numbers2 .ensures) (n-room (c .before .before .before .before .before .before .before .before .before .before .before .before .before .before)))
+slice-aggregate-seal-in-2 c = sym (part-long _ 1152 _ (c .before .before .before .before .before .numbers2 .ensures) (n-room (at-start (c .before .before .before))))
 
 array-borrow-prefix-r : tie.Need-array-borrow-prefix-r
-array-borrow-prefix-r c = omega (arith, n-room (c .before .before .before .before .before .before .before .before .before .before .before .before .before .before), c .before .before .before .before .numbers3 .ensures)
+array-borrow-prefix-r c = omega (arith, n-room (at-start (c .before .before .before)), c .before .before .before .before .numbers3 .ensures)
 
 slice-aggregate-seal-in-3 : tie.Need-slice-aggregate-seal-in-3
-slice-aggregate-seal-in-3 c = sym (part-long _ 1152 _ (c .before .before .before .before .before .numbers3 .ensures) (n-room (c .before .before .before .before .before .before .before .before .before .before .before .before .before .before .before)))
+slice-aggregate-seal-in-3 c = sym (part-long _ 1152 _ (c .before .before .before .before .before .numbers3 .ensures) (n-room (at-start (c .before .before .before .before))))
 
 array-borrow-prefix-c : tie.Need-array-borrow-prefix-c
-array-borrow-prefix-c c = omega (arith, n-room (c .before .before .before .before .before .before .before .before .before .before .before .before .before .before .before), c .before .before .before .before .numbers4 .ensures)
+array-borrow-prefix-c c = omega (arith, n-room (at-start (c .before .before .before .before)), c .before .before .before .before .numbers4 .ensures)
 
 slice-aggregate-seal-in-4 : tie.Need-slice-aggregate-seal-in-4
-slice-aggregate-seal-in-4 c = sym (part-long _ 1152 _ (c .before .before .before .before .before .numbers4 .ensures) (n-room (c .before .before .before .before .before .before .before .before .before .before .before .before .before .before .before .before)))
+slice-aggregate-seal-in-4 c = sym (part-long _ 1152 _ (c .before .before .before .before .before .numbers4 .ensures) (n-room (at-start (c .before .before .before .before .before))))
 
 seal-in-requires : tie.Need-seal-in-requires
 seal-in-requires c κs =
-    let i = set (c .before .before .before .before .before .before .before .before .before .before .before .before .before .before .before .before .before .before) in
-    let l = c .before .before .before .before .before .before .before .before .before .before .before .before .before .before .before .before .before .before .pre .1 in
-    let n = n-room (c .before .before .before .before .before .before .before .before .before .before .before .before .before .before .before .before .before .before) in (
+    let i = set (at-start (c .before .before .before .before .before .before .before)) in
+    let l = at-start (c .before .before .before .before .before .before .before) .pre .1 in
+    let n = n-room (at-start (c .before .before .before .before .before .before .before)) in (
       (
         record { turns = i .turns; table = c .before .before .before .before .before .before .before .before .before .before .before .powers .ensures },
         l .0 ∙ i .packed,

@@ -16,6 +16,14 @@ use Rattle.encoding.proofs.Steps.{decoded-is}
 use Rattle.encoding.proofs.decode.Statement.{statement}
 use Rattle.encoding.proofs.decode.Tie as tie
 
+-- ---- earlier moments, each from a later one
+
+abbrev at-start : tie.After-list-halves → tie.Start
+at-start c = c .before .before .before .before .before .before .before
+
+abbrev at-list-halves : tie.After-decode-bits → tie.After-list-halves
+at-list-halves c = c .before .before .before .before .before
+
 -- a table of bits
 table-low : (bits : List ℕ) (n : ℕ) (f : ℕ → ℕ) → bits ≡ tab n f → ((i : ℕ) → f i < 2) → Below 2 bits
 table-low bits n f e h = subst (Below 2) (sym e) (below-tab (omega arith) n f h)
@@ -26,7 +34,7 @@ list-halves-requires c κs = omega arith
 decode-bits-requires : tie.Need-decode-bits-requires
 decode-bits-requires c κs =
     let h = c .before .before .before .before in
-    let s = h .before .before .before .before .before .before .before in
+    let s = at-start h in
     let block = now (s .args .block) in
     let words : length block % 8 ≡ 0 = omega (arith, s .pre .0) in (
       omega (arith, s .pre),
@@ -38,7 +46,7 @@ decode-bits-requires c κs =
 unlist-requires : tie.Need-unlist-requires
 unlist-requires c κs =
     let d = c .before .before .before .before in
-    let s = d .before .before .before .before .before .before .before .before .before .before .before .before in
+    let s = at-start (at-list-halves d) in
     let long = ap length (d .decode-bits .ensures) ∙ length-tab (length (now (s .args .bits))) _ in
     (omega (arith, long, s .pre), omega (arith, long, s .pre), table-low _ _ _ (d .decode-bits .ensures) (λ i. decodeBit-lt _ _ _))
 
@@ -54,8 +62,8 @@ same-length-3 c = omega arith
 returns : tie.Need-returns
 returns c =
     let d = c .before .before .before .before .before .before .before in
-    let h = d .before .before .before .before .before in
-    let s = h .before .before .before .before .before .before .before in
+    let h = at-list-halves d in
+    let s = at-start h in
     let n = length (now (s .args .bits)) in
     c .before .before .unlist .ensures
     ∙ decoded-is (now (s .args .block)) (omega (arith, s .pre .0)) (h .list-halves .last .1 .0) (h .list-halves .ensures)

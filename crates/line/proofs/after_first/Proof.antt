@@ -27,11 +27,11 @@ use Rattle.line.proofs.after_first.Tie as tie
 
 -- ---- the places at which lines 2 and 3 have been read
 
-abbrev start : tie.After-polynomial-in → tie.Start
-start c = c .before .before .before .before .before .before .before .before .before
+abbrev at-start : tie.After-polynomial-in → tie.Start
+at-start c = c .before .before .before .before .before .before .before .before .before
 
-abbrev earlier : tie.After-polynomial-in2 → tie.After-polynomial-in
-earlier c = c .before .before .before .before .before .before .before
+abbrev at-polynomial-in : tie.After-polynomial-in2 → tie.After-polynomial-in
+at-polynomial-in c = c .before .before .before .before .before .before .before
 
 abbrev input : tie.Start → List ℕ
 input s = now (s .args .input)
@@ -47,52 +47,52 @@ b c = c .polynomial-in2 .last .1 .1 .0
 
 -- ---- what each of them says
 
-second : (c : tie.After-polynomial-in) → Reads (c .polynomial-in .result) (a c) (polynomialIn aName (n (start c)) (past lf (input (start c))))
+second : (c : tie.After-polynomial-in) → Reads (c .polynomial-in .result) (a c) (polynomialIn aName (n (at-start c)) (past lf (input (at-start c))))
 second c =
-    subst (λ t. Reads (c .polynomial-in .result) (a c) (polynomialIn aName (n (start c)) t)) (c .before .before .before .past .ensures)
+    subst (λ t. Reads (c .polynomial-in .result) (a c) (polynomialIn aName (n (at-start c)) t)) (c .before .before .before .past .ensures)
     (c .polynomial-in .ensures)
 
-second-is : (c : tie.Else1) → let p = c .before .before .before in polynomialIn aName (n (start p)) (past lf (input (start p))) ≡ some (a p)
+second-is : (c : tie.Else1) → let p = c .before .before .before in polynomialIn aName (n (at-start p)) (past lf (input (at-start p))) ≡ some (a p)
 second-is c =
     let p = c .before .before .before in
-    reads-good (a p) _ (subst (λ r. Reads r (a p) (polynomialIn aName (n (start p)) (past lf (input (start p))))) (not-false _ (c .if1 .left)) (second p))
+    reads-good (a p) _ (subst (λ r. Reads r (a p) (polynomialIn aName (n (at-start p)) (past lf (input (at-start p))))) (not-false _ (c .if1 .left)) (second p))
 
-third : (c : tie.After-polynomial-in2) → let s = start (earlier c) in
+third : (c : tie.After-polynomial-in2) → let s = at-start (at-polynomial-in c) in
     Reads (c .polynomial-in2 .result) (b c) (polynomialIn bName (n s) (past lf (past lf (input s))))
 third c =
-    let s = start (earlier c) in
+    let s = at-start (at-polynomial-in c) in
     subst (λ t. Reads (c .polynomial-in2 .result) (b c) t)
     (ap (λ m. polynomialIn bName m (c .before .before .before .past2 .result .now)) (s .pre .1)
     ∙ ap (λ t. polynomialIn bName (n s) t)
-    (c .before .before .before .past2 .ensures ∙ ap (past lf) (earlier c .before .before .before .past .ensures)))
+    (c .before .before .before .past2 .ensures ∙ ap (past lf) (at-polynomial-in c .before .before .before .past .ensures)))
     (c .polynomial-in2 .ensures)
 
-third-is : (c : tie.Else2) → let p = c .before .before .before in let s = start (earlier p) in
+third-is : (c : tie.Else2) → let p = c .before .before .before in let s = at-start (at-polynomial-in p) in
     polynomialIn bName (n s) (past lf (past lf (input s))) ≡ some (b p)
 third-is c =
     let p = c .before .before .before in
-    let s = start (earlier p) in
+    let s = at-start (at-polynomial-in p) in
     reads-good (b p) _ (subst (λ r. Reads r (b p) (polynomialIn bName (n s) (past lf (past lf (input s))))) (not-false _ (c .if2 .left)) (third p))
 
-more-is : (c : tie.After-past3) → let s = start (earlier (c .before .before .before .before)) in
+more-is : (c : tie.After-past3) → let s = at-start (at-polynomial-in (c .before .before .before .before)) in
     c .past3 .result .now ≡ past lf (past lf (past lf (input s)))
 more-is c =
     let p = c .before .before .before .before in
-    c .past3 .ensures ∙ ap (past lf) (p .before .before .before .past2 .ensures ∙ ap (past lf) (earlier p .before .before .before .past .ensures))
+    c .past3 .ensures ∙ ap (past lf) (p .before .before .before .past2 .ensures ∙ ap (past lf) (at-polynomial-in p .before .before .before .past .ensures))
 
 -- ---- the product
 
-abbrev read : tie.After-product → tie.After-polynomial-in2
-read c = c .before .before .before .before .before .before .before .before .before
+abbrev at-polynomial-in2 : tie.After-product → tie.After-polynomial-in2
+at-polynomial-in2 c = c .before .before .before .before .before .before .before .before .before
 
 abbrev begun : tie.After-product → tie.Start
-begun c = start (earlier (read c))
+begun c = at-start (at-polynomial-in (at-polynomial-in2 c))
 
 abbrev factor-a : tie.After-product → List ℕ
-factor-a c = a (earlier (read c))
+factor-a c = a (at-polynomial-in (at-polynomial-in2 c))
 
 abbrev factor-b : tie.After-product → List ℕ
-factor-b c = b (read c)
+factor-b c = b (at-polynomial-in2 c)
 
 -- the call answers 0 and writes the product
 written : (c : tie.After-product) → (numberOf (c .product .result) ≡ 0) × (placeOf (c .product .result) ≡ 0)
@@ -101,7 +101,7 @@ written c =
     let s = begun c in
     let o = c .before .before .before .before in
     chosen-product (s .pre .0) (factor-a c) (factor-b c)
-    (line-residues aName (past lf (input s)) (n s) (factor-a c) (second-is (read c .before .before .before .before)))
+    (line-residues aName (past lf (input s)) (n s) (factor-a c) (second-is (at-polynomial-in2 c .before .before .before .before)))
     (line-residues bName (past lf (past lf (input s))) (n s) (factor-b c) (third-is (o .before .before)))
     _ _ _ (s .pre .2) (c .product .ensures)
 
@@ -118,7 +118,7 @@ polynomial-in-requires c κs = tt
 
 put-answer-requires : tie.Need-put-answer-requires
 put-answer-requires c κs =
-    let s = start (c .before .before .before .before) in
+    let s = at-start (c .before .before .before .before) in
     (lit< tt, omega (arith, answer-short 7 2 (lit< tt) (lit< tt), s .pre .3))
 
 same-length : tie.Need-same-length
@@ -132,7 +132,7 @@ returns c =
     let w = c .before .before in
     let t = w .before .before in
     let p = t .before .before .before in
-    let s = start p in
+    let s = at-start p in
     writes-as (w .put-answer .ensures)
     (sym (printed-second (s .pre .0)
     (reads-bad (a p) _ (subst (λ r. Reads r (a p) (polynomialIn aName (n s) (past lf (input s)))) (not-true _ (t .if1 .taken)) (second p))))) refl
@@ -148,7 +148,7 @@ polynomial-in-requires-2 c κs = tt
 
 put-answer-requires-2 : tie.Need-put-answer-requires-2
 put-answer-requires-2 c κs =
-    let s = start (earlier (c .before .before .before .before)) in
+    let s = at-start (at-polynomial-in (c .before .before .before .before)) in
     (lit< tt, omega (arith, answer-short 7 3 (lit< tt) (lit< tt), s .pre .3))
 
 same-length-3 : tie.Need-same-length-3
@@ -166,9 +166,9 @@ returns-2 c =
     let t = w .before .before in
     let p = t .before .before .before in
     let e = p .before .before .before .before in
-    let s = start (earlier p) in
+    let s = at-start (at-polynomial-in p) in
     writes-as (w .put-answer2 .ensures)
-    (sym (printed-third (s .pre .0) (a (earlier p)) (second-is e)
+    (sym (printed-third (s .pre .0) (a (at-polynomial-in p)) (second-is e)
     (reads-bad (b p) _ (subst (λ r. Reads r (b p) (polynomialIn bName (n s) (past lf (past lf (input s))))) (not-true _ (t .if2 .taken)) (third p))))) refl
 
 past-requires-3 : tie.Need-past-requires-3
@@ -176,7 +176,7 @@ past-requires-3 c κs = tt
 
 put-answer-requires-3 : tie.Need-put-answer-requires-3
 put-answer-requires-3 c κs =
-    let s = start (earlier (c .before .before .before .before .before .before)) in
+    let s = at-start (at-polynomial-in (c .before .before .before .before .before .before)) in
     (lit< tt, omega (arith, answer-short 7 4 (lit< tt) (lit< tt), s .pre .3))
 
 same-length-6 : tie.Need-same-length-6
@@ -194,9 +194,9 @@ returns-3 c =
     let t = w .before .before in
     let m = t .before in
     let p = m .before .before .before .before in
-    let s = start (earlier p) in
+    let s = at-start (at-polynomial-in p) in
     writes-as (w .put-answer3 .ensures)
-    (sym (printed-more (s .pre .0) (a (earlier p)) (second-is (p .before .before .before .before)) (b p) (third-is (m .before))
+    (sym (printed-more (s .pre .0) (a (at-polynomial-in p)) (second-is (p .before .before .before .before)) (b p) (third-is (m .before))
     (λ e. omega (arith, t .if3 .taken, ap length (more-is m), e)))) refl
 
 product-requires : tie.Need-product-requires

@@ -23,22 +23,22 @@ use Rattle.line.proofs.line.Tie as tie
 
 -- ---- what is known where the number is read, and where the set is known
 
-abbrev start : tie.After-set → tie.Start
-start c = c .before .before .before .before .before
+abbrev at-start : tie.After-set → tie.Start
+at-start c = c .before .before .before .before .before
 
-first : (c : tie.After-set) → setIn (now (start c .args .input)) ≡ Is (c .set .given .0 .0)
+first : (c : tie.After-set) → setIn (now (at-start c .args .input)) ≡ Is (c .set .given .0 .0)
 first c = sym (c .before .before .set-in .ensures) ∙ c .set .given .1
 
-abbrev number : tie.After-s → tie.After-set
-number c = c .before .before .before .before
+abbrev at-set : tie.After-s → tie.After-set
+at-set c = c .before .before .before .before
 
 abbrev chosen : tie.After-s → Parameters
 chosen c = c .s .given .0 .0
 
-known : (c : tie.After-s) → setOf (number c .set .given .0 .0) ≡ Known (chosen c)
+known : (c : tie.After-s) → setOf (at-set c .set .given .0 .0) ≡ Known (chosen c)
 known c = sym (c .before .before .set-of .ensures) ∙ c .s .given .1
 
-set : (c : tie.After-s) → IsSet (number c .set .given .0 .0) (chosen c)
+set : (c : tie.After-s) → IsSet (at-set c .set .given .0 .0) (chosen c)
 set c = known-set _ _ (known c)
 
 -- ---- the needs
@@ -78,7 +78,7 @@ enum-told-2 c = omega arith
 
 put-answer-requires-3 : tie.Need-put-answer-requires-3
 put-answer-requires-3 c κs =
-    let s = start (c .before .before .before .before .before) in
+    let s = at-start (c .before .before .before .before .before) in
     let room : 16384 ≤ length (now (s .args .output)) = search needs in
     (lit< tt, omega (arith, answer-short 1 0 (lit< tt) (lit< tt), room))
 
@@ -126,13 +126,13 @@ after-first-requires : tie.Need-after-first-requires
 after-first-requires c κs =
     let m = c .before .before .before .before in
     let k = m .before .before .before .before in
-    let s = start (number k) in
+    let s = at-start (at-set k) in
     let a = length-take-le (chosen k .n) (m .before .before .numbers .result) (room-a m) in
     let room : 16384 ≤ length (now (s .args .output)) = search needs in (
       record {
         parameters = chosen k;
-        short = number k .before .before .before .if1 .left;
-        first = first (number k);
+        short = at-set k .before .before .before .if1 .left;
+        first = first (at-set k);
         known = known k;
         size = sym a;
       },
@@ -156,7 +156,7 @@ returns-3 c =
     let e = c .before .before in
     let o = e .before .before in
     let k = o .before .before in
-    let s = start k in
+    let s = at-start k in
     writes-as (c .put-answer3 .ensures)
     (sym (printed-unknown (now (s .args .input)) (k .before .before .before .if1 .left) (k .set .given .0 .0) (first k) (sym (o .set-of .ensures) ∙ e .enum-told2 .given .1))) refl
 

@@ -15,6 +15,11 @@ use Rattle.small.proofs.Halves.{length-first-bits}
 use Rattle.small.proofs.list_halves.Statement.{statement}
 use Rattle.small.proofs.list_halves.Tie as tie
 
+-- ---- earlier moments, each from a later one
+
+abbrev at-start : tie.After-list → tie.Start
+at-start c = c .before .before .before .before .before
+
 -- what the two calls are lent are the halves
 first-half : (block p : List ℕ) → p ≡ listed (take (length block / 2) block) → p ≡ listed (firstHalf block)
 unfolding firstHalf
@@ -64,7 +69,7 @@ same-length c = omega arith
 
 returns : tie.Need-returns
 returns c =
-    let s = c .before .before .before .before .before .before .before .before .before .before .before .before in
+    let s = at-start (c .before .before .before .before .before .before .before) in
     let block = now (s .args .block) in
     let p = c .before .before .before .before .before .before .before .list .last .1 .0 in
     let q = c .before .before .list2 .last .1 .0 in

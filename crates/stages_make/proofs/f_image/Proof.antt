@@ -21,6 +21,17 @@ use Rattle.stages_make.proofs.MakingLaws.{length-tripled, length-plusOn
 use Rattle.stages_make.proofs.f_image.Statement.{statement}
 use Rattle.stages_make.proofs.f_image.Tie as tie
 
+-- ---- earlier moments, each from a later one
+
+abbrev at-start : tie.After-sample → tie.Start
+at-start c = c .before .before .before .before .before .before .before .before
+
+abbrev at-sample : tie.After-triple → tie.After-sample
+at-sample c = c .before .before .before .before .before .before .before
+
+abbrev at-triple : tie.After-add → tie.After-triple
+at-triple c = c .before .before .before .before
+
 -- 3f', of the arguments, and its n coefficients, of which there is a first
 abbrev three : tie.Start → List ℤ
 three s = tripled (sampled (now (s .args .block)))
@@ -35,13 +46,13 @@ some s =
 
 -- ---- what the room holds: 3f', then 3f' + 1
 
-before : (c : tie.After-triple) → c .triple .last .1 .0 ≡ map residueOf (three (c .before .before .before .before .before .before .before .before .before .before .before .before .before .before .before))
-before c = c .triple .ensures ∙ ap (map (mulq 3)) (c .before .before .before .before .before .before .before .sample .ensures) ∙ map-tripled (sampled (now (c .before .before .before .before .before .before .before .before .before .before .before .before .before .before .before .args .block)))
+before : (c : tie.After-triple) → c .triple .last .1 .0 ≡ map residueOf (three (at-start (at-sample c)))
+before c = c .triple .ensures ∙ ap (map (mulq 3)) (at-sample c .sample .ensures) ∙ map-tripled (sampled (now (at-start (at-sample c) .args .block)))
 
-after : (c : tie.After-add) → set (c .before .before .before .before .triple .last .1 .0) 0 (c .add .result .0) ≡ map residueOf (plusOne (three (c .before .before .before .before .before .before .before .before .before .before .before .before .before .before .before .before .before .before .before)))
+after : (c : tie.After-add) → set (at-triple c .triple .last .1 .0) 0 (c .add .result .0) ≡ map residueOf (plusOne (three (at-start (at-sample (at-triple c)))))
 after c =
-    let e = before (c .before .before .before .before) in
-    ap (λ l. set l 0 (c .add .result .0)) e ∙ plusOne-is (three (c .before .before .before .before .before .before .before .before .before .before .before .before .before .before .before .before .before .before .before)) (some (c .before .before .before .before .before .before .before .before .before .before .before .before .before .before .before .before .before .before .before)) (c .add .ensures .0 ∙ ap (λ l. addq (getD l 0 0) 1) e)
+    let e = before (at-triple c) in
+    ap (λ l. set l 0 (c .add .result .0)) e ∙ plusOne-is (three (at-start (at-sample (at-triple c)))) (some (at-start (at-sample (at-triple c)))) (c .add .ensures .0 ∙ ap (λ l. addq (getD l 0 0) 1) e)
 
 -- ---- the needs
 
@@ -50,25 +61,25 @@ sample-requires c κs = search needs
 
 triple-requires : tie.Need-triple-requires
 triple-requires c κs =
-    let s = c .before .before .before .before .before .before .before .before .before .before .before .before .before .before in
+    let s = at-start (c .before .before .before .before .before .before) in
     residues-as (sampled-residues (now (s .args .block)) (s .pre .0 .2)) (c .before .before .before .before .before .before .sample .ensures) (s .pre .1 .2)
 
 slice-read-t20 : tie.Need-slice-read-t20
 slice-read-t20 c =
-    omega (arith, ap length (before (c .before .before .before)), whole-residues (three (c .before .before .before .before .before .before .before .before .before .before .before .before .before .before .before .before .before .before)) refl .long, some (c .before .before .before .before .before .before .before .before .before .before .before .before .before .before .before .before .before .before))
+    omega (arith, ap length (before (c .before .before .before)), whole-residues (three (at-start (at-sample (c .before .before .before)))) refl .long, some (at-start (at-sample (c .before .before .before))))
 
 add-requires : tie.Need-add-requires
 add-requires c κs =
-    let s = c .before .before .before .before .before .before .before .before .before .before .before .before .before .before .before .before .before .before in
+    let s = at-start (at-sample (c .before .before .before)) in
     (subst (λ l. getD l 0 0 < q) (sym (before (c .before .before .before))) (whole-residues (three s) refl .low 0 (some s)), omega arith)
 
 slice-write-q : tie.Need-slice-write-q
 slice-write-q c =
-    omega (arith, ap length (before (c .before .before .before .before)), whole-residues (three (c .before .before .before .before .before .before .before .before .before .before .before .before .before .before .before .before .before .before .before)) refl .long, some (c .before .before .before .before .before .before .before .before .before .before .before .before .before .before .before .before .before .before .before))
+    omega (arith, ap length (before (at-triple c)), whole-residues (three (at-start (at-sample (at-triple c)))) refl .long, some (at-start (at-sample (at-triple c))))
 
 transform-requires : tie.Need-transform-requires
 transform-requires c κs =
-    let s = c .before .before .before .before .before .before .before .before .before .before .before .before .before .before .before .before .before .before .before .before .before in (
+    let s = at-start (at-sample (at-triple (c .before .before))) in (
       s .pre .0 .0,
       residues-as (whole-residues (plusOne (three s)) (length-plusOne (three s) ∙ long s)) (after (c .before .before)) refl,
       s .pre .1 .3,
@@ -89,7 +100,7 @@ same-length-4 c = search needs
 returns : tie.Need-returns
 unfolding fImage imageOf
 returns c =
-    let s = c .before .before .before .before .before .before .before .before .before .before .before .before .before .before .before .before .before .before .before .before .before .before .before .before in
+    let s = at-start (at-sample (at-triple (c .before .before .before .before .before))) in
     c .before .before .transform .ensures ∙ ap (image (s .args .half) (powq generator (s .args .step))) (after (c .before .before .before .before .before))
 
 pub f-image-spec : {M : Type 1} → statement M

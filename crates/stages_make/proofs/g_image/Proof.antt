@@ -16,21 +16,29 @@ use Rattle.stages_make.proofs.MakingLaws.{length-tripled, map-tripled}
 use Rattle.stages_make.proofs.g_image.Statement.{statement}
 use Rattle.stages_make.proofs.g_image.Tie as tie
 
+-- ---- earlier moments, each from a later one
+
+abbrev at-start : tie.After-sample → tie.Start
+at-start c = c .before .before .before .before .before .before .before .before
+
+abbrev at-sample : tie.After-triple → tie.After-sample
+at-sample c = c .before .before .before .before .before .before .before
+
 -- the coefficients of 3g'
-coefficients : (c : tie.After-triple) → c .triple .last .1 .0 ≡ map residueOf (tripled (sampled (now (c .before .before .before .before .before .before .before .before .before .before .before .before .before .before .before .args .block))))
-coefficients c = c .triple .ensures ∙ ap (map (mulq 3)) (c .before .before .before .before .before .before .before .sample .ensures) ∙ map-tripled (sampled (now (c .before .before .before .before .before .before .before .before .before .before .before .before .before .before .before .args .block)))
+coefficients : (c : tie.After-triple) → c .triple .last .1 .0 ≡ map residueOf (tripled (sampled (now (at-start (at-sample c) .args .block))))
+coefficients c = c .triple .ensures ∙ ap (map (mulq 3)) (at-sample c .sample .ensures) ∙ map-tripled (sampled (now (at-start (at-sample c) .args .block)))
 
 sample-requires : tie.Need-sample-requires
 sample-requires c κs = search needs
 
 triple-requires : tie.Need-triple-requires
 triple-requires c κs =
-    let s = c .before .before .before .before .before .before .before .before .before .before .before .before .before .before in
+    let s = at-start (c .before .before .before .before .before .before) in
     residues-as (sampled-residues (now (s .args .block)) (s .pre .0 .2)) (c .before .before .before .before .before .before .sample .ensures) (s .pre .1 .2)
 
 transform-requires : tie.Need-transform-requires
 transform-requires c κs =
-    let s = c .before .before .before .before .before .before .before .before .before .before .before .before .before .before .before .before .before .before .before in
+    let s = at-start (at-sample (c .before .before .before .before)) in
     let block = now (s .args .block) in (
       s .pre .0 .0,
       residues-as (whole-residues (tripled (sampled block)) (length-tripled (sampled block) ∙ length-sampled block ∙ sym (s .pre .0 .2)))
@@ -53,7 +61,7 @@ same-length-4 c = search needs
 returns : tie.Need-returns
 unfolding gImage imageOf
 returns c =
-    let s = c .before .before .before .before .before .before .before .before .before .before .before .before .before .before .before .before .before .before .before .before .before .before in
+    let s = at-start (at-sample (c .before .before .before .before .before .before .before)) in
     c .before .before .transform .ensures ∙ ap (image (s .args .half) (powq generator (s .args .step))) (coefficients (c .before .before .before .before .before .before .before))
 
 pub g-image-spec : {M : Type 1} → statement M

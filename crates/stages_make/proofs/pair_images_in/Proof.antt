@@ -14,6 +14,14 @@ use Rattle.stages.specs.Making.{smallF, smallG, gImage}
 use Rattle.stages_make.proofs.pair_images_in.Statement.{statement}
 use Rattle.stages_make.proofs.pair_images_in.Tie as tie
 
+-- ---- earlier moments, each from a later one
+
+abbrev at-start : tie.After-f-image → tie.Start
+at-start c = c .before .before .before .before .before .before .before .before .before .before .before .before
+
+abbrev at-f-image : tie.After-g-image → tie.After-f-image
+at-f-image c = c .before .before .before .before .before .before .before .before .before .before .before .before .before .before
+
 slice-aggregate-f-image : tie.Need-slice-aggregate-f-image
 slice-aggregate-f-image c =
     sym (length-take-le _ _ (omega arith))
@@ -38,7 +46,7 @@ part-g-image-end c = search needs
 
 g-image-requires : tie.Need-g-image-requires
 g-image-requires c κs =
-    let s = c .before .before .before .before .before .before .before .before .before .before .before .before .before .before .before .before .before .before .before .before .before .before .before .before .before in
+    let s = at-start (c .before .before .before .before .before .before .before .before .before .before .before .before .before) in
     let seed = now (s .args .seed) in
     let long : length (take (length seed - length seed / 2) (drop (length seed / 2) seed)) ≡ length seed / 2 =
     ap length (part-to-end seed (length seed / 2)) ∙ length-drop (length seed / 2) seed ∙ omega (arith, s .pre .0 .1) in (
@@ -64,9 +72,9 @@ same-length-5 c = search needs
 returns : tie.Need-returns
 unfolding smallF smallG firstHalf secondHalf
 returns c =
-    let s = c .before .before .before .before .before .before .before .before .before .before .before .before .before .before .before .before .before .before .before .before .before .before .before .before .before .before .before .before .before .before .before .before .before .before in
+    let s = at-start (at-f-image (c .before .before .before .before .before .before .before .before)) in
     let seed = now (s .args .seed) in (
-      c .before .before .before .before .before .before .before .before .before .before .before .before .before .before .before .before .before .before .before .before .before .before .f-image .ensures,
+      at-f-image (c .before .before .before .before .before .before .before .before) .f-image .ensures,
       c .before .before .before .before .before .before .before .before .g-image .ensures ∙ ap (λ l. gImage (s .args .half) (powq generator (s .args .step)) (sampled l)) (part-to-end seed (length seed / 2)),
     )
 

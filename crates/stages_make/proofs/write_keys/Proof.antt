@@ -10,6 +10,11 @@ use Rattle.rooms.proofs.RoomLaws.{part-long}
 use Rattle.stages_make.proofs.write_keys.Statement.{statement}
 use Rattle.stages_make.proofs.write_keys.Tie as tie
 
+-- ---- earlier moments, each from a later one
+
+abbrev at-start : tie.After-numbers2 → tie.Start
+at-start c = c .before .before .before .before .before .before
+
 -- n places are in the rooms
 n-room : (s : tie.Start) → length (now (s .args .f)) ≤ 1152
 n-room s = s .pre .0 .1
@@ -24,23 +29,23 @@ numbers-requires-2 c κs = search needs
 
 array-borrow-prefix-p : tie.Need-array-borrow-prefix-p
 array-borrow-prefix-p c =
-    omega (arith, n-room (c .before .before .before .before .before .before), c .before .numbers .ensures)
+    omega (arith, n-room (at-start c), c .before .numbers .ensures)
 
 slice-aggregate-write-keys-in : tie.Need-slice-aggregate-write-keys-in
 slice-aggregate-write-keys-in c =
-    sym (part-long _ 1152 _ (c .before .before .numbers .ensures) (n-room (c .before .before .before .before .before .before .before)))
+    sym (part-long _ 1152 _ (c .before .before .numbers .ensures) (n-room (at-start (c .before))))
 
 array-borrow-prefix-q : tie.Need-array-borrow-prefix-q
 array-borrow-prefix-q c =
-    omega (arith, n-room (c .before .before .before .before .before .before .before), c .before .numbers2 .ensures)
+    omega (arith, n-room (at-start (c .before)), c .before .numbers2 .ensures)
 
 slice-aggregate-write-keys-in-2 : tie.Need-slice-aggregate-write-keys-in-2
 slice-aggregate-write-keys-in-2 c =
-    sym (part-long _ 1152 _ (c .before .before .numbers2 .ensures) (n-room (c .before .before .before .before .before .before .before .before)))
+    sym (part-long _ 1152 _ (c .before .before .numbers2 .ensures) (n-room (at-start (c .before .before))))
 
 write-keys-in-requires : tie.Need-write-keys-in-requires
 write-keys-in-requires c κs =
-    let s = c .before .before .before .before .before .before .before .before .before .before in (
+    let s = at-start (c .before .before .before .before) in (
       (s .pre .0 .0, s .pre .0 .2, s .pre .0 .3),
       (part-long _ 1152 _ (c .before .before .before .before .before .numbers .ensures) (n-room s), part-long _ 1152 _ (c .before .before .before .before .numbers2 .ensures) (n-room s), s .pre .1 .0, s .pre .1 .1),
     )

@@ -14,6 +14,20 @@ use Rattle.stages.proofs.ImageLaws.{residues-as}
 use Rattle.stages_make.proofs.write_keys_in.Statement.{statement}
 use Rattle.stages_make.proofs.write_keys_in.Tie as tie
 
+-- ---- earlier moments, each from a later one
+
+abbrev at-start : tie.After-invert → tie.Start
+at-start c = c .before .before .before .before .before .before .before .before
+
+abbrev at-invert : tie.After-times → tie.After-invert
+at-invert c = c .before .before .before .before .before
+
+abbrev at-times : tie.After-pack → tie.After-times
+at-times c = c .before .before .before .before .before
+
+abbrev at-pack : tie.After-invert2 → tie.After-pack
+at-pack c = c .before .before .before .before .before
+
 -- ---- n, 1/f and h, of the arguments
 
 abbrev n : tie.Start → ℕ
@@ -27,16 +41,16 @@ quotient s = times (n s) (now (s .args .g)) (inverse s)
 
 -- ---- what the rooms hold
 
-first : (c : tie.After-invert) → c .invert .last .1 .0 ≡ inverse (c .before .before .before .before .before .before .before .before)
-first c = let s = c .before .before .before .before .before .before .before .before in c .invert .ensures ∙ ap (λ m. inverses m (now (s .args .f))) (s .pre .1 .0)
+first : (c : tie.After-invert) → c .invert .last .1 .0 ≡ inverse (at-start c)
+first c = let s = at-start c in c .invert .ensures ∙ ap (λ m. inverses m (now (s .args .f))) (s .pre .1 .0)
 
-second : (c : tie.After-times) → c .times .last .1 .1 .0 ≡ quotient (c .before .before .before .before .before .before .before .before .before .before .before .before .before)
-second c = let s = c .before .before .before .before .before .before .before .before .before .before .before .before .before in c .times .ensures ∙ ap₂ (λ m l. times m (now (s .args .g)) l) (s .pre .1 .1) (first (c .before .before .before .before .before))
+second : (c : tie.After-times) → c .times .last .1 .1 .0 ≡ quotient (at-start (at-invert c))
+second c = let s = at-start (at-invert c) in c .times .ensures ∙ ap₂ (λ m l. times m (now (s .args .g)) l) (s .pre .1 .1) (first (at-invert c))
 
-third : (c : tie.After-invert2) → c .invert2 .last .1 .0 ≡ inverses (n (c .before .before .before .before .before .before .before .before .before .before .before .before .before .before .before .before .before .before .before .before .before .before .before)) (quotient (c .before .before .before .before .before .before .before .before .before .before .before .before .before .before .before .before .before .before .before .before .before .before .before))
+third : (c : tie.After-invert2) → c .invert2 .last .1 .0 ≡ inverses (n (at-start (at-invert (at-times (at-pack c))))) (quotient (at-start (at-invert (at-times (at-pack c)))))
 third c =
-    let s = c .before .before .before .before .before .before .before .before .before .before .before .before .before .before .before .before .before .before .before .before .before .before .before in
-    c .invert2 .ensures ∙ ap₂ inverses (ap length (first (c .before .before .before .before .before .before .before .before .before .before .before .before .before .before .before)) ∙ inverses-residues (n s) (now (s .args .f)) .long) (second (c .before .before .before .before .before .before .before .before .before .before))
+    let s = at-start (at-invert (at-times (at-pack c))) in
+    c .invert2 .ensures ∙ ap₂ inverses (ap length (first (at-invert (at-times (at-pack c)))) ∙ inverses-residues (n s) (now (s .args .f)) .long) (second (at-times (at-pack c)))
 
 -- ---- the needs
 
@@ -47,25 +61,25 @@ invert-requires c κs =
 
 times-requires : tie.Need-times-requires
 times-requires c κs =
-    let s = c .before .before .before .before .before .before .before .before .before .before .before .before in
+    let s = at-start (c .before .before .before .before) in
     (residues-as (s .pre .0 .2) refl (s .pre .1 .1), residues-as (inverses-residues (n s) (now (s .args .f))) (first (c .before .before .before .before)) (s .pre .1 .1))
 
 pack-requires : tie.Need-pack-requires
 pack-requires c κs =
-    let s = c .before .before .before .before .before .before .before .before .before .before .before .before .before .before .before .before .before in
+    let s = at-start (at-invert (c .before .before .before .before)) in
     let r = times-residues (n s) (now (s .args .g)) (inverse s) in
     let long = ap length (second (c .before .before .before .before)) ∙ r .long in
     (omega (arith, s .pre .0 .0, long), (s .pre .1 .2 ∙ ap (λ k. 3 * (k / 2)) (sym long), residues-as r (second (c .before .before .before .before)) long))
 
 invert-requires-2 : tie.Need-invert-requires-2
 invert-requires-2 c κs =
-    let s = c .before .before .before .before .before .before .before .before .before .before .before .before .before .before .before .before .before .before .before .before .before .before in
-    residues-as (times-residues (n s) (now (s .args .g)) (inverse s)) (second (c .before .before .before .before .before .before .before .before .before))
-    (ap length (first (c .before .before .before .before .before .before .before .before .before .before .before .before .before .before)) ∙ inverses-residues (n s) (now (s .args .f)) .long)
+    let s = at-start (at-invert (at-times (c .before .before .before .before))) in
+    residues-as (times-residues (n s) (now (s .args .g)) (inverse s)) (second (at-times (c .before .before .before .before)))
+    (ap length (first (at-invert (at-times (c .before .before .before .before)))) ∙ inverses-residues (n s) (now (s .args .f)) .long)
 
 write-private-requires : tie.Need-write-private-requires
 write-private-requires c κs =
-    let s = c .before .before .before .before .before .before .before .before .before .before .before .before .before .before .before .before .before .before .before .before .before .before .before .before .before .before .before in
+    let s = at-start (at-invert (at-times (at-pack (c .before .before .before .before)))) in
     (s .pre .0 .0, s .pre .0 .1, residues-as (inverses-residues (n s) (quotient s)) (third (c .before .before .before .before)) refl, s .pre .1 .3)
 
 same-length : tie.Need-same-length
@@ -82,8 +96,8 @@ same-length-4 c = search needs
 
 returns : tie.Need-returns
 returns c =
-    let s = c .before .before .before .before .before .before .before .before .before .before .before .before .before .before .before .before .before .before .before .before .before .before .before .before .before .before .before .before .before .before in (
-      c .before .before .before .before .before .before .before .before .before .before .before .before .pack .ensures ∙ ap packed (second (c .before .before .before .before .before .before .before .before .before .before .before .before .before .before .before .before .before)),
+    let s = at-start (at-invert (at-times (at-pack (c .before .before .before .before .before .before .before)))) in (
+      at-pack (c .before .before .before .before .before .before .before) .pack .ensures ∙ ap packed (second (at-times (at-pack (c .before .before .before .before .before .before .before)))),
       c .before .before .write-private .ensures ∙ ap (λ l. packed (now (s .args .f)) ++ packed l) (third (c .before .before .before .before .before .before .before)),
     )
 

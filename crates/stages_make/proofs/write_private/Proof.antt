@@ -15,6 +15,11 @@ use Rattle.packing.proofs.PackingLaws.{length-packed}
 use Rattle.stages_make.proofs.write_private.Statement.{statement}
 use Rattle.stages_make.proofs.write_private.Tie as tie
 
+-- ---- earlier moments, each from a later one
+
+abbrev at-start : tie.After-pack → tie.Start
+at-start c = c .before .before .before .before .before
+
 slice-relend-prefix-pack : tie.Need-slice-relend-prefix-pack
 slice-relend-prefix-pack c = search needs
 
@@ -40,7 +45,7 @@ part-pack-end c = search needs
 
 pack-requires-2 : tie.Need-pack-requires-2
 pack-requires-2 c κs =
-    let s = c .before .before .before .before .before .before .before .before in
+    let s = at-start (c .before .before .before) in
     let f = s .pre .1 in
     let k = own-length (s .pre .2) in
     (omega (arith, s .pre .0, s .pre .2 .long), (omega (arith, ap (λ m. m / 2) (s .pre .2 .long), s .pre .3), search (f, k)))
@@ -50,7 +55,7 @@ same-length c = search needs
 
 returns : tie.Need-returns
 returns c =
-    let s = c .before .before .before .before .before .before .before .before .before .before .before in
+    let s = at-start (c .before .before .before .before .before .before) in
     let p = c .before .before .before .before .before .before .pack .last .1 .0 in
     let q = c .before .before .pack2 .last .1 .0 in
     let first : p ≡ packed (now (s .args .f)) = c .before .before .before .before .before .before .pack .ensures in

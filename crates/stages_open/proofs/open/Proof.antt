@@ -9,6 +9,11 @@ use Rattle.slots.proofs.ReadyLaws.{half-small}
 use Rattle.stages_open.proofs.open.Statement.{statement}
 use Rattle.stages_open.proofs.open.Tie as tie
 
+-- ---- earlier moments, each from a later one
+
+abbrev at-start : tie.After-numbers2 → tie.Start
+at-start c = c .before .before .before .before .before .before .before
+
 -- n places are in the rooms
 n-room : (s : tie.Start) → s .args .half + s .args .half ≤ 1152
 n-room s = omega (arith, half-small (s .pre .0 .0))
@@ -26,23 +31,23 @@ numbers-requires-2 c κs = search needs
 
 array-borrow-prefix-p : tie.Need-array-borrow-prefix-p
 array-borrow-prefix-p c =
-    omega (arith, n-room (c .before .before .before .before .before .before .before), c .before .numbers .ensures)
+    omega (arith, n-room (at-start c), c .before .numbers .ensures)
 
 slice-aggregate-open-in : tie.Need-slice-aggregate-open-in
 slice-aggregate-open-in c =
-    sym (part-long _ 1152 _ (c .before .before .numbers .ensures) (n-room (c .before .before .before .before .before .before .before .before)))
+    sym (part-long _ 1152 _ (c .before .before .numbers .ensures) (n-room (at-start (c .before))))
 
 array-borrow-prefix-q : tie.Need-array-borrow-prefix-q
 array-borrow-prefix-q c =
-    omega (arith, n-room (c .before .before .before .before .before .before .before .before), c .before .numbers2 .ensures)
+    omega (arith, n-room (at-start (c .before)), c .before .numbers2 .ensures)
 
 slice-aggregate-open-in-2 : tie.Need-slice-aggregate-open-in-2
 slice-aggregate-open-in-2 c =
-    sym (part-long _ 1152 _ (c .before .before .numbers2 .ensures) (n-room (c .before .before .before .before .before .before .before .before .before)))
+    sym (part-long _ 1152 _ (c .before .before .numbers2 .ensures) (n-room (at-start (c .before .before))))
 
 open-in-requires : tie.Need-open-in-requires
 open-in-requires c κs =
-    let s = c .before .before .before .before .before .before .before .before .before .before .before in
+    let s = at-start (c .before .before .before .before) in
     (s .pre .0, (part-long _ 1152 _ (c .before .before .before .before .before .numbers .ensures) (n-room s), part-long _ 1152 _ (c .before .before .before .before .numbers2 .ensures) (n-room s), s .pre .1 .0, s .pre .1 .1))
 
 same-length : tie.Need-same-length

@@ -17,15 +17,23 @@ use Rattle.stages_open.proofs.OpeningLaws.{map-map}
 use Rattle.stages_open.proofs.open_marks.Statement.{statement}
 use Rattle.stages_open.proofs.open_marks.Tie as tie
 
+-- ---- earlier moments, each from a later one
+
+abbrev at-start : tie.After-times → tie.Start
+at-start c = c .before .before .before .before .before .before .before
+
+abbrev at-times : tie.After-reverse → tie.After-times
+at-times c = c .before .before .before .before .before
+
 -- the product of c and f, slot by slot
-product : (c : tie.After-times) → let s = c .before .before .before .before .before .before .before in c .times .last .1 .1 .0 ≡ times (s .args .half + s .args .half) (now (s .args .c)) (now (s .args .f))
-product c = let s = c .before .before .before .before .before .before .before in c .times .ensures ∙ ap (λ n. times n (now (s .args .c)) (now (s .args .f))) (s .pre .1 .0)
+product : (c : tie.After-times) → let s = at-start c in c .times .last .1 .1 .0 ≡ times (s .args .half + s .args .half) (now (s .args .c)) (now (s .args .f))
+product c = let s = at-start c in c .times .ensures ∙ ap (λ n. times n (now (s .args .c)) (now (s .args .f))) (s .pre .1 .0)
 
 -- and its reverse
-element : (c : tie.After-reverse) → let s = c .before .before .before .before .before .before .before .before .before .before .before .before in
+element : (c : tie.After-reverse) → let s = at-start (at-times c) in
     c .reverse .last .1 .1 .1 .1 .0
     ≡ reverse (s .args .half) (powq generator (s .args .step)) (times (s .args .half + s .args .half) (now (s .args .c)) (now (s .args .f)))
-element c = let s = c .before .before .before .before .before .before .before .before .before .before .before .before in c .reverse .ensures ∙ ap (reverse (s .args .half) (powq generator (s .args .step))) (product (c .before .before .before .before .before))
+element c = let s = at-start (at-times c) in c .reverse .ensures ∙ ap (reverse (s .args .half) (powq generator (s .args .step))) (product (at-times c))
 
 -- ---- the needs
 
@@ -36,12 +44,12 @@ times-requires c κs =
 
 reverse-requires : tie.Need-reverse-requires
 reverse-requires c κs =
-    let s = c .before .before .before .before .before .before .before .before .before .before .before in
+    let s = at-start (c .before .before .before .before) in
     (s .pre .0 .0, residues-as (times-residues (s .args .half + s .args .half) (now (s .args .c)) (now (s .args .f))) (product (c .before .before .before .before)) refl, s .pre .1 .1)
 
 mark-requires : tie.Need-mark-requires
 mark-requires c κs =
-    let s = c .before .before .before .before .before .before .before .before .before .before .before .before .before .before .before .before in
+    let s = at-start (at-times (c .before .before .before .before)) in
     residues-as (reverse-residues (s .args .half) (powq generator (s .args .step)) _) (element (c .before .before .before .before)) (s .pre .1 .2)
 
 same-length : tie.Need-same-length
@@ -56,7 +64,7 @@ same-length-3 c = search needs
 returns : tie.Need-returns
 unfolding openedM
 returns c =
-    let s = c .before .before .before .before .before .before .before .before .before .before .before .before .before .before .before .before .before .before .before in
+    let s = at-start (at-times (c .before .before .before .before .before .before .before)) in
     c .before .before .mark .ensures ∙ ap (map (λ a. markOf (centredByThree a))) (element (c .before .before .before .before .before .before .before)) ∙ map-map markOf centredByThree (reverse (s .args .half) (powq generator (s .args .step)) (times (s .args .half + s .args .half) (now (s .args .c)) (now (s .args .f))))
 
 pub open-marks-spec : {M : Type 1} → statement M

@@ -19,6 +19,17 @@ use Rattle.stages.proofs.ImageLaws.{residues-as, imageOf-residues}
 use Rattle.stages_seal.proofs.sealed_image.Statement.{statement}
 use Rattle.stages_seal.proofs.sealed_image.Tie as tie
 
+-- ---- earlier moments, each from a later one
+
+abbrev at-start : tie.After-sampled-image → tie.Start
+at-start c = c .before .before .before .before .before .before .before .before .before .before
+
+abbrev at-sampled-image : tie.After-times → tie.After-sampled-image
+at-sampled-image c = c .before .before .before .before .before
+
+abbrev at-times : tie.After-encoded-image → tie.After-times
+at-times c = c .before .before .before .before
+
 -- ---- n, w and the images of r and m, of the arguments
 
 abbrev n : tie.Start → ℕ
@@ -44,14 +55,14 @@ long s =
 
 -- ---- what the rooms hold
 
-r-is : (c : tie.After-sampled-image) → c .sampled-image .last .1 .1 .1 .1 .0 ≡ R (c .before .before .before .before .before .before .before .before .before .before)
+r-is : (c : tie.After-sampled-image) → c .sampled-image .last .1 .1 .1 .1 .0 ≡ R (at-start c)
 unfolding smallR
-r-is c = let s = c .before .before .before .before .before .before .before .before .before .before in c .sampled-image .ensures ∙ ap (λ l. imageOf (s .args .half) (w s) (sampled l)) (part-to-end (now (s .args .hblock)) 32)
+r-is c = let s = at-start c in c .sampled-image .ensures ∙ ap (λ l. imageOf (s .args .half) (w s) (sampled l)) (part-to-end (now (s .args .hblock)) 32)
 
-product : (c : tie.After-times) → c .times .last .1 .1 .0 ≡ times (n (c .before .before .before .before .before .before .before .before .before .before .before .before .before .before .before)) (now (c .before .before .before .before .before .before .before .before .before .before .before .before .before .before .before .args .h)) (R (c .before .before .before .before .before .before .before .before .before .before .before .before .before .before .before))
-product c = let s = c .before .before .before .before .before .before .before .before .before .before .before .before .before .before .before in c .times .ensures ∙ ap₂ (λ k l. times k (now (s .args .h)) l) (s .pre .1 .0) (r-is (c .before .before .before .before .before))
+product : (c : tie.After-times) → c .times .last .1 .1 .0 ≡ times (n (at-start (at-sampled-image c))) (now (at-start (at-sampled-image c) .args .h)) (R (at-start (at-sampled-image c)))
+product c = let s = at-start (at-sampled-image c) in c .times .ensures ∙ ap₂ (λ k l. times k (now (s .args .h)) l) (s .pre .1 .0) (r-is (at-sampled-image c))
 
-m-is : (c : tie.After-encoded-image) → c .encoded-image .last .1 .1 .1 .1 .1 .0 ≡ M (c .before .before .before .before .before .before .before .before .before .before .before .before .before .before .before .before .before .before .before)
+m-is : (c : tie.After-encoded-image) → c .encoded-image .last .1 .1 .1 .1 .1 .0 ≡ M (at-start (at-sampled-image (at-times c)))
 m-is c = c .encoded-image .ensures
 
 -- ---- the needs
@@ -73,21 +84,21 @@ sampled-image-requires c κs =
 
 times-requires : tie.Need-times-requires
 times-requires c κs =
-    let s = c .before .before .before .before .before .before .before .before .before .before .before .before .before .before in (
+    let s = at-start (c .before .before .before .before) in (
       residues-as (s .pre .0 .1) refl (s .pre .1 .0),
       residues-as (imageOf-residues (s .args .half) (w s) (smallR (now (s .args .hblock)))) (r-is (c .before .before .before .before)) (s .pre .1 .0),
     )
 
 encoded-image-requires : tie.Need-encoded-image-requires
 encoded-image-requires c κs =
-    let s = c .before .before .before .before .before .before .before .before .before .before .before .before .before .before .before .before .before .before in
+    let s = at-start (at-sampled-image (c .before .before .before)) in
     let l = long s in
     (s .pre .0 .0, s .pre .0 .2, s .pre .0 .3, omega (arith, l, s .pre .0 .5), omega (arith, s .pre .1))
 
 plus-requires : tie.Need-plus-requires
 plus-requires c κs =
-    let s = c .before .before .before .before .before .before .before .before .before .before .before .before .before .before .before .before .before .before .before .before .before .before .before .before in (
-      residues-as (times-residues (n s) (now (s .args .h)) (R s)) (product (c .before .before .before .before .before .before .before .before .before)) (s .pre .1 .2),
+    let s = at-start (at-sampled-image (at-times (c .before .before .before .before .before))) in (
+      residues-as (times-residues (n s) (now (s .args .h)) (R s)) (product (at-times (c .before .before .before .before .before))) (s .pre .1 .2),
       residues-as (imageOf-residues (s .args .half) (w s) (encoded (now (s .args .message)) (now (s .args .gblock)))) (m-is (c .before .before .before .before .before)) (s .pre .1 .2),
     )
 
@@ -103,10 +114,10 @@ same-length-3 c = search needs
 returns : tie.Need-returns
 unfolding sealedImage
 returns c =
-    let s = c .before .before .before .before .before .before .before .before .before .before .before .before .before .before .before .before .before .before .before .before .before .before .before .before .before .before .before in
+    let s = at-start (at-sampled-image (at-times (c .before .before .before .before .before .before .before .before))) in
     c .before .before .plus .ensures
-    ∙ ap (λ k. plus k (c .before .before .before .before .before .before .before .before .before .before .before .before .times .last .1 .1 .0) (c .before .before .before .before .before .before .before .before .encoded-image .last .1 .1 .1 .1 .1 .0)) (s .pre .1 .2)
-    ∙ ap₂ (plus (n s)) (product (c .before .before .before .before .before .before .before .before .before .before .before .before)) (m-is (c .before .before .before .before .before .before .before .before))
+    ∙ ap (λ k. plus k (at-times (c .before .before .before .before .before .before .before .before) .times .last .1 .1 .0) (c .before .before .before .before .before .before .before .before .encoded-image .last .1 .1 .1 .1 .1 .0)) (s .pre .1 .2)
+    ∙ ap₂ (plus (n s)) (product (at-times (c .before .before .before .before .before .before .before .before))) (m-is (c .before .before .before .before .before .before .before .before))
 
 pub sealed-image-spec : {M : Type 1} → statement M
 sealed-image-spec =

@@ -14,12 +14,20 @@ use Rattle.calls_halves.proofs.HalvesLaws.{handed-unknown, handed-known
 use Rattle.calls_halves.proofs.f_half.f_half.Statement.{statement}
 use Rattle.calls_halves.proofs.f_half.f_half.Tie as tie
 
-known : (c : tie.After-s) → setOf (c .before .before .before .before .args .set) ≡ Known (c .s .given .0 .0)
+-- ---- earlier moments, each from a later one
+
+abbrev at-start : tie.After-s → tie.Start
+at-start c = c .before .before .before .before
+
+abbrev at-s : tie.Then1 → tie.After-s
+at-s c = c .before .before .before
+
+known : (c : tie.After-s) → setOf (at-start c .args .set) ≡ Known (c .s .given .0 .0)
 known c = sym (c .before .before .set-of .ensures) ∙ c .s .given .1
 
 -- the key's halves have the length that the set decides
-halves : (c : tie.Then1) → c .before .before .before .s .given .0 .0 .packed ≡ length (now (c .before .before .before .before .before .before .before .args .key)) / 2
-halves c = let s = c .before .before .before .before .before .before .before .args in middle (s .set) (now (s .key)) _ (known (c .before .before .before)) (c .if1 .taken)
+halves : (c : tie.Then1) → at-s c .s .given .0 .0 .packed ≡ length (now (at-start (at-s c) .args .key)) / 2
+halves c = let s = at-start (at-s c) .args in middle (s .set) (now (s .key)) _ (known (at-s c)) (c .if1 .taken)
 
 -- ---- the needs
 
@@ -53,8 +61,8 @@ returns c =
 returns-2 : tie.Need-returns-2
 unfolding firstHalf
 returns-2 c =
-    let s = c .before .before .before .before .before .before .before .before .args in
-    let k = known (c .before .before .before .before) in
+    let s = at-start (at-s (c .before)) .args in
+    let k = known (at-s (c .before)) in
     let e = c .before .if1 .taken in
     record {
       content = rw (handed-known (s .set) (now (s .key)) _ k e) (ap (λ m. take m (now (s .key))) (halves (c .before)));
@@ -63,7 +71,7 @@ returns-2 c =
 
 returns-3 : tie.Need-returns-3
 returns-3 c =
-    let s = c .before .before .before .before .before .before .before .before .args in
+    let s = at-start (c .before .before .before .before) .args in
     record { content = rw (handed-other (s .set) (now (s .key)) _ (known (c .before .before .before .before)) (c .before .if1 .left)) refl; lent = refl }
 
 pub f-half-spec : {M : Type 1} → statement M

@@ -15,12 +15,20 @@ use Rattle.calls_halves.proofs.HalvesLaws.{handed-unknown, handed-known
 use Rattle.calls_halves.proofs.h_half.h_half.Statement.{statement}
 use Rattle.calls_halves.proofs.h_half.h_half.Tie as tie
 
-known : (c : tie.After-s) → setOf (c .before .before .before .before .args .set) ≡ Known (c .s .given .0 .0)
+-- ---- earlier moments, each from a later one
+
+abbrev at-start : tie.After-s → tie.Start
+at-start c = c .before .before .before .before
+
+abbrev at-s : tie.Then1 → tie.After-s
+at-s c = c .before .before .before
+
+known : (c : tie.After-s) → setOf (at-start c .args .set) ≡ Known (c .s .given .0 .0)
 known c = sym (c .before .before .set-of .ensures) ∙ c .s .given .1
 
 -- the key's halves have the length that the set decides
-halves : (c : tie.Then1) → c .before .before .before .s .given .0 .0 .packed ≡ length (now (c .before .before .before .before .before .before .before .args .key)) / 2
-halves c = let s = c .before .before .before .before .before .before .before .args in middle (s .set) (now (s .key)) _ (known (c .before .before .before)) (c .if1 .taken)
+halves : (c : tie.Then1) → at-s c .s .given .0 .0 .packed ≡ length (now (at-start (at-s c) .args .key)) / 2
+halves c = let s = at-start (at-s c) .args in middle (s .set) (now (s .key)) _ (known (at-s c)) (c .if1 .taken)
 
 -- ---- the needs
 
@@ -72,8 +80,8 @@ returns c =
 returns-2 : tie.Need-returns-2
 unfolding secondHalf further
 returns-2 c =
-    let s = c .before .before .before .before .before .before .before .before .args in
-    let k = known (c .before .before .before .before) in
+    let s = at-start (at-s (c .before)) .args in
+    let k = known (at-s (c .before)) in
     let t = c .before .if1 .taken in
     let e = handed-known (s .set) (now (s .key)) _ k t in
     let m = halves (c .before) in
@@ -85,7 +93,7 @@ returns-2 c =
 returns-3 : tie.Need-returns-3
 unfolding further
 returns-3 c =
-    let s = c .before .before .before .before .before .before .before .before .args in
+    let s = at-start (c .before .before .before .before) .args in
     let e = handed-other (s .set) (now (s .key)) _ (known (c .before .before .before .before)) (c .before .if1 .left) in
     record { content = rw e refl; lent = rw e refl }
 

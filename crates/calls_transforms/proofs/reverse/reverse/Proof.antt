@@ -12,13 +12,13 @@ use Rattle.calls_transforms.proofs.Tested.{kept, is-set, ready, done}
 use Rattle.calls_transforms.proofs.reverse.reverse.Statement.{statement}
 use Rattle.calls_transforms.proofs.reverse.reverse.Tie as tie
 
-abbrev start : tie.After-s → tie.Start
-start c = c .before .before .before .before .before
+abbrev at-start : tie.After-s → tie.Start
+at-start c = c .before .before .before .before .before
 
 -- what the tests told where they passed
-passed : (c : tie.After-s) → let s = start c in Tells (s .args .set) (now (s .args .a)) (length (now (s .args .out))) (Ready (c .s .given .0 .0))
+passed : (c : tie.After-s) → let s = at-start c in Tells (s .args .set) (now (s .args .a)) (length (now (s .args .out))) (Ready (c .s .given .0 .0))
 passed c =
-    let s = start c in
+    let s = at-start c in
     subst (Tells (s .args .set) (now (s .args .a)) (length (now (s .args .out)))) (c .s .given .1) (c .before .before .test-list .ensures)
 
 test-list-requires : tie.Need-test-list-requires
@@ -36,7 +36,7 @@ powers-requires c κs = tt
 reverse-requires : tie.Need-reverse-requires
 reverse-requires c κs =
     let k = c .before .before .before .before in
-    let s = start k in
+    let s = at-start k in
     ready (s .args .set) (now (s .args .a)) (now (s .args .out)) (k .s .given .0 .0) (passed k) (c .before .before .powers .ensures)
 
 returns : tie.Need-returns
@@ -54,7 +54,7 @@ returns-2 : tie.Need-returns-2
 unfolding Reverse reverseOf
 returns-2 c =
     let k = c .before .before .before .before .before .before .before in
-    let s = start k in
+    let s = at-start k in
     let t = passed k in
     done (s .args .set) (now (s .args .a)) (now (s .args .out)) (k .s .given .0 .0) t (λ p. reverse (p .half) (p .root) (now (s .args .a))) _
     (c .before .before .reverse .ensures

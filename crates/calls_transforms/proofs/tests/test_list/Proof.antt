@@ -41,27 +41,27 @@ Refuses R = R .number ≡ 0 → ⊥
 
 -- ---- what is known where the set is, where the lengths are right, and where no number is large
 
-abbrev start : tie.After-s → tie.Start
-start c = c .before .before .before .before
+abbrev at-start : tie.After-s → tie.Start
+at-start c = c .before .before .before .before
 
 abbrev chosen : tie.After-s → Parameters
 chosen c = c .s .given .0 .0
 
-known : (c : tie.After-s) → setOf (start c .args .set) ≡ Known (chosen c)
+known : (c : tie.After-s) → setOf (at-start c .args .set) ≡ Known (chosen c)
 known c = sym (c .before .before .set-of .ensures) ∙ c .s .given .1
 
-abbrev parameters : tie.Else1 → tie.After-s
-parameters c = c .before .before .before .before .before
+abbrev at-s : tie.Else1 → tie.After-s
+at-s c = c .before .before .before .before .before
 
-fit : (c : tie.Else1) → fits (start (parameters c)) (chosen (parameters c)) ≡ true
+fit : (c : tie.Else1) → fits (at-start (at-s c)) (chosen (at-s c)) ≡ true
 fit c = sym (c .before .both .ensures) ∙ not-false _ (c .if1 .left)
 
-lengths : (c : tie.Else1) → let s = start (parameters c) in let n = chosen (parameters c) .n in (length (now (s .args .a)) ≡ n) × (s .args .room ≡ n)
-lengths c = let n = chosen (parameters c) .n in let a = first-length _ n _ (fit c) in (a .0, eqb-true _ n (a .1))
+lengths : (c : tie.Else1) → let s = at-start (at-s c) in let n = chosen (at-s c) .n in (length (now (s .args .a)) ≡ n) × (s .args .room ≡ n)
+lengths c = let n = chosen (at-s c) .n in let a = first-length _ n _ (fit c) in (a .0, eqb-true _ n (a .1))
 
-first : (c : tie.After-first-large) → c .first-large .result ≡ firstThrough tooLarge (inputs (start (parameters (c .before))))
+first : (c : tie.After-first-large) → c .first-large .result ≡ firstThrough tooLarge (inputs (at-start (at-s (c .before))))
 unfolding firstLarge
-first c = c .first-large .ensures ∙ sym (through-one tooLarge (now (start (parameters (c .before)) .args .a)))
+first c = c .first-large .ensures ∙ sym (through-one tooLarge (now (at-start (at-s (c .before)) .args .a)))
 
 -- ---- the needs
 
@@ -81,7 +81,7 @@ returns : tie.Need-returns
 unfolding Tells listReply
 returns c =
     let k = c .before .before .before .before .before in
-    let s = start k in
+    let s = at-start k in
     wrong-length Refuses (s .args .set) (fits s) (rest s) (chosen k) (known k) (sym (c .before .both .ensures) ∙ not-true _ (c .if1 .taken)) (λ e. omega (arith, e))
 
 first-large-requires : tie.Need-first-large-requires
@@ -91,8 +91,8 @@ returns-2 : tie.Need-returns-2
 unfolding Tells listReply
 returns-2 c =
     let e = c .before .before .before in
-    let k = parameters e in
-    let s = start k in
+    let k = at-s e in
+    let s = at-start k in
     right-lengths Refuses (s .args .set) (fits s) (rest s) (chosen k) (known k) (fit e) _
     (too-large Refuses (inputs s) (reply 0 0) _ (first (c .before .before)) (omega (arith, c .if2 .taken, lengths e, length-one (now (s .args .a)))) (λ e. omega (arith, e)))
 
@@ -106,8 +106,8 @@ returns-4 : tie.Need-returns-4
 unfolding Tells listReply
 returns-4 c =
     let e = c .before .before .before in
-    let k = parameters e in
-    let s = start k in
+    let k = at-s e in
+    let s = at-start k in
     let none : length (flatten (inputs s)) ≤ firstThrough tooLarge (inputs s) = omega (arith, c .if2 .left, first (c .before .before), lengths e, length-one (now (s .args .a))) in (
       in-order (s .args .set) (fits s) (rest s) (chosen k) (known k) (fit e) ∙ clear (inputs s) (reply 0 0) none,
       known k,

@@ -13,12 +13,17 @@ use Rattle.stages.proofs.ImageLaws.{encoded-residues}
 use Rattle.stages.proofs.images.encoded_image_in.Statement.{statement}
 use Rattle.stages.proofs.images.encoded_image_in.Tie as tie
 
+-- ---- earlier moments, each from a later one
+
+abbrev at-start : tie.After-encode → tie.Start
+at-start c = c .before .before .before .before .before .before .before .before .before .before
+
 encode-requires : tie.Need-encode-requires
 encode-requires c κs = search needs
 
 transform-requires : tie.Need-transform-requires
 transform-requires c κs =
-    let s = c .before .before .before .before .before .before .before .before .before .before .before .before .before .before .before .before .before .before in (
+    let s = at-start (c .before .before .before .before .before .before .before .before) in (
       s .pre .0 .0,
       subst (Residues (s .args .half + s .args .half)) (sym (c .before .before .before .before .before .before .before .before .encode .ensures))
           (encoded-residues (now (s .args .message)) (now (s .args .block)) (omega (arith, s .pre))),
@@ -40,7 +45,7 @@ same-length-4 c = search needs
 returns : tie.Need-returns
 unfolding imageOf
 returns c =
-    let s = c .before .before .before .before .before .before .before .before .before .before .before .before .before .before .before .before .before .before .before .before .before in
+    let s = at-start (c .before .before .before .before .before .before .before .before .before .before .before) in
     c .before .before .transform .ensures ∙ ap (image (s .args .half) (powq generator (s .args .step))) (c .before .before .before .before .before .before .before .before .before .before .before .encode .ensures)
 
 pub encoded-image-in-spec : {M : Type 1} → statement M

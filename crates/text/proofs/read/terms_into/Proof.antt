@@ -32,8 +32,8 @@ abbrev μ-loop : tie.MeasureT-loop
 μ-loop s list₀ n at₀ low₀ list at low = length s - at
 
 -- the places on the way
-abbrev start : tie.At-loop Inv-loop μ-loop → tie.Start Inv-loop μ-loop
-start l = l .before .before .before
+abbrev at-start : tie.At-loop Inv-loop μ-loop → tie.Start Inv-loop μ-loop
+at-start l = l .before .before .before
 
 abbrev turn : tie.After-find Inv-loop μ-loop → tie.At-loop Inv-loop μ-loop
 turn f = f .before .before
@@ -46,10 +46,10 @@ binding e = e .before .before .before
 
 -- what is left of the text at a turn, and that it is as long as the slice says
 abbrev text : tie.At-loop Inv-loop μ-loop → List ℕ
-text l = drop (l .loop .at) (now (start l .args .s))
+text l = drop (l .loop .at) (now (at-start l .args .s))
 
-rest-is : (l : tie.At-loop Inv-loop μ-loop) → take (length (now (start l .args .s)) - l .loop .at) (text l) ≡ text l
-rest-is l = part-to-end (now (start l .args .s)) (l .loop .at)
+rest-is : (l : tie.At-loop Inv-loop μ-loop) → take (length (now (at-start l .args .s)) - l .loop .at) (text l) ≡ text l
+rest-is l = part-to-end (now (at-start l .args .s)) (l .loop .at)
 
 -- the place of its first comma
 size-is : (f : tie.After-find Inv-loop μ-loop) → f .find .result ≡ firstWhere (eqb comma) (text (turn f))
@@ -64,7 +64,7 @@ found : (i : tie.After-index Inv-loop μ-loop) → term (upTo comma (text (turn 
 found i = sym (term-is (i .before .before)) ∙ i .index .given .1
 
 fine : (e : tie.Else1 Inv-loop μ-loop) → let i = binding e in let l = turn (finding i) in
-    allowed (length (now (start l .args .list))) (l .loop .low) (i .index .given .0 .0) (i .index .given .0 .1 .0) ≡ true
+    allowed (length (now (at-start l .args .list))) (l .loop .low) (i .index .given .0 .0) (i .index .given .0 .1 .0) ≡ true
 fine e = sym (e .before .in-range .ensures) ∙ not-false _ (e .if1 .left)
 
 -- where the text goes on, its first comma lies in it, and the next term starts at most at its end
@@ -74,10 +74,10 @@ more c =
     omega (arith, size-is f, ap length (rest-is (turn f)), first-within (eqb comma) (text (turn f)), c .if2 .left)
 
 next : (c : tie.Else2 Inv-loop μ-loop) → let f = finding (binding (c .before)) in
-    turn f .loop .at + f .find .result + 1 ≤ length (now (start (turn f) .args .s))
+    turn f .loop .at + f .find .result + 1 ≤ length (now (at-start (turn f) .args .s))
 next c =
     let f = finding (binding (c .before)) in
-    omega (arith, size-is f, length-drop (turn f .loop .at) (now (start (turn f) .args .s)), more c)
+    omega (arith, size-is f, length-drop (turn f .loop .at) (now (at-start (turn f) .args .s)), more c)
 
 loop-holds : tie.Need-loop-holds Inv-loop μ-loop
 loop-holds c = (search needs, refl, refl)
@@ -168,7 +168,7 @@ loop-again c =
       next c,
       simp length-set (l .loop .inv .1),
       l .loop .inv .2 ∙ text-more _ _ _ (text l) _ _ (found i) (fine (c .before)) (more c)
-          ∙ rw (add-one, past-drop comma (now (start l .args .s)) (l .loop .at) (f .find .result) (size-is f)) refl,
+          ∙ rw (add-one, past-drop comma (now (at-start l .args .s)) (l .loop .at) (f .find .result) (size-is f)) refl,
     )
 
 pub terms-into-spec : {M : Type 1} → statement M
