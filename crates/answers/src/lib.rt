@@ -1,6 +1,6 @@
 // What a call can answer, and what a set number decides.
 ghost use mathlib.Core.Path.{_≡_};
-ghost use mathlib.Core.Bool.{cond, _&&_};
+ghost use mathlib.Core.Bool.{cond};
 ghost use Prim.Native.Nat.{_+_, _<_};
 ghost use lib.Dec.{ltb};
 ghost use Rattle.answers.specs.Answers.{numberOf, placeOf};
@@ -104,13 +104,6 @@ pub fn set_of(set: usize) -> SetChoice
         }),
         _ => SetChoice::Unknown,
     }
-}
-
-// For a test of several lengths at once.
-pub fn both(a: bool, b: bool) -> bool
-    ensures { λ r. ⌜ r ≡ (a && b) ⌝ }
-{
-    if a { b } else { false }
 }
 
 // A place found in one of two inputs, counted through both: the first holds n numbers, and n stands for none of them.

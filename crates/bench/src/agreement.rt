@@ -25,10 +25,7 @@ pub fn make(l: Lengths) {
     let mut private = room::bytes(165);
     let zeros = pair(l, 0, &mut public, &mut private);
     show::text(b"make zeros");
-    show::outcome(
-        zeros,
-        answers::both(room::kept(&public), room::kept(&private)),
-    );
+    show::outcome(zeros, room::kept(&public) & room::kept(&private));
     show::text(b"make byte ");
     show::number(l.seed / 2);
     show::answer(b": ", pair(l, 1, &mut public, &mut private));

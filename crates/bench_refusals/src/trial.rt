@@ -42,7 +42,7 @@ fn bytes(call: Call, lent: Lent, one: At, two: At, three: At, fill: u8, last: At
     let mut out = room::bytes(165);
     let mut other = room::bytes(165);
     let answer = lend::on_bytes(call, lent, &a, &b, &zeros, &zeros, &mut out, &mut other);
-    show::outcome(answer, answers::both(room::kept(&out), room::kept(&other)));
+    show::outcome(answer, room::kept(&out) & room::kept(&other));
 }
 
 // The same, with the name of the call before it.

@@ -1,12 +1,9 @@
 // A seed block to a pair of keys.
 use answers::Answer;
-use answers::Parameters;
 use answers::SetChoice;
-ghost use mathlib.Core.Bool.{_&&_};
 ghost use mathlib.Core.List.{[], _∷_};
 ghost use mathlib.Core.Path.{_≡_};
 ghost use Prim.Native.Nat.{_+_, _*_, _%_, _≤_};
-ghost use lib.Dec.{eqb};
 ghost use lib.ListN.{length};
 ghost use Rattle.residue.specs.Field.{generator, powq};
 ghost use Rattle.algebra.specs.SlotBySlot.{isZero};
@@ -15,16 +12,6 @@ ghost use Rattle.answers.specs.Tests.{atFirst};
 ghost use Rattle.slots.specs.Ready.{Ready};
 ghost use Rattle.stages.specs.Making.{smallF, smallG, fImage, gImage, publicKey, privateKey};
 ghost use Rattle.calls_make.specs.Make.{Make};
-
-// Whether each buffer has the length that the set decides.
-fn lengths(s: Parameters, seed: usize, public: usize, private: usize) -> bool
-    ensures { λ r. ⌜ r ≡ (eqb seed (s .seed) && (eqb public (s .packed) && eqb private (s .private))) ⌝ }
-{
-    answers::both(
-        seed == s.seed,
-        answers::both(public == s.packed, private == s.private),
-    )
-}
 
 // With buffers of the right lengths. The keys are written when no slot is zero, and not before.
 fn make_in(
@@ -58,7 +45,8 @@ pub fn make(set: usize, seed: &[u8], public: &mut [u8], private: &mut [u8]) -> A
     match answers::set_of(set) {
         SetChoice::Unknown => Answer::UnknownSet,
         SetChoice::Known(s) => {
-            if !lengths(s, seed.len(), public.len(), private.len()) {
+            let keys = (public.len() == s.packed) & (private.len() == s.private);
+            if !((seed.len() == s.seed) & keys) {
                 return Answer::WrongLength;
             }
             let n = s.n;

@@ -1,12 +1,9 @@
 // A private key and a ciphertext to marks and the packed image of r.
 use answers::Answer;
-use answers::Parameters;
 use answers::SetChoice;
-ghost use mathlib.Core.Bool.{_&&_};
 ghost use mathlib.Core.List.{[], _∷_};
 ghost use mathlib.Core.Path.{_≡_};
 ghost use Prim.Native.Nat.{_+_, _*_, _/_, _%_, _≤_};
-ghost use lib.Dec.{eqb};
 ghost use lib.ListN.{length};
 ghost use Rattle.lists.specs.First.{firstThrough};
 ghost use Rattle.residue.specs.Field.{generator, powq};
@@ -18,17 +15,6 @@ ghost use Rattle.answers.specs.Tests.{inRange};
 ghost use Rattle.slots.specs.Ready.{Ready};
 ghost use Rattle.stages.specs.Opening.{openedMarks, openedImage};
 ghost use Rattle.calls_open_1.specs.OpenOne.{OpenOne};
-
-// Whether each buffer has the length that the set decides.
-fn lengths(s: Parameters, private: usize, cipher: usize, marks: usize, image: usize) -> bool
-    ensures { λ r. ⌜ r ≡ (eqb private (s .private) && (eqb cipher (s .packed) && (eqb marks (s .n) && eqb image (s .packed)))) ⌝ }
-{
-    let outputs = answers::both(marks == s.n, image == s.packed);
-    answers::both(
-        private == s.private,
-        answers::both(cipher == s.packed, outputs),
-    )
-}
 
 // All groups of the key's two halves and of the ciphertext. The place of the first above 3456, counted through all of them.
 fn unpack_all(
@@ -94,7 +80,8 @@ pub fn open_1(
     match answers::set_of(set) {
         SetChoice::Unknown => Answer::UnknownSet,
         SetChoice::Known(s) => {
-            if !lengths(s, private.len(), cipher.len(), marks.len(), image.len()) {
+            let outputs = (marks.len() == s.n) & (image.len() == s.packed);
+            if !((private.len() == s.private) & ((cipher.len() == s.packed) & outputs)) {
                 return Answer::WrongLength;
             }
             let n = s.n;

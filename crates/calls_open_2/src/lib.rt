@@ -1,28 +1,15 @@
 // Marks to the message that they decode to.
 use answers::Answer;
-use answers::Parameters;
 use answers::SetChoice;
-ghost use mathlib.Core.Bool.{_&&_};
 ghost use mathlib.Core.List.{[], _∷_};
 ghost use mathlib.Core.Path.{_≡_};
 ghost use Prim.Native.Nat.{_*_, _%_};
-ghost use lib.Dec.{eqb};
 ghost use lib.ListN.{length};
 ghost use Rattle.marks.specs.Marks.{noMark};
 ghost use Rattle.answers.specs.Replies.{reply, leaves, Outcome};
 ghost use Rattle.answers.specs.Tests.{atFirst};
 ghost use Rattle.stages.specs.Opening.{openedMessage};
 ghost use Rattle.calls_open_2.specs.OpenTwo.{OpenTwo};
-
-// Whether each buffer has the length that the set decides.
-fn lengths(s: Parameters, marks: usize, gblock: usize, message: usize) -> bool
-    ensures { λ r. ⌜ r ≡ (eqb marks (s .n) && (eqb gblock (s .gblock) && eqb message (s .message))) ⌝ }
-{
-    answers::both(
-        marks == s.n,
-        answers::both(gblock == s.gblock, message == s.message),
-    )
-}
 
 // With buffers of the right lengths.
 fn open_2_in(
@@ -50,7 +37,8 @@ pub fn open_2(set: usize, marks: &[u8], gblock: &[u8], message: &mut [u8]) -> An
     match answers::set_of(set) {
         SetChoice::Unknown => Answer::UnknownSet,
         SetChoice::Known(s) => {
-            if !lengths(s, marks.len(), gblock.len(), message.len()) {
+            let bytes = (gblock.len() == s.gblock) & (message.len() == s.message);
+            if !((marks.len() == s.n) & bytes) {
                 return Answer::WrongLength;
             }
             let n = s.n;

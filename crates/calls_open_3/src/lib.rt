@@ -1,12 +1,10 @@
 // The key of an H block, where the lent image is that of its r.
 use answers::Answer;
-use answers::Parameters;
 use answers::SetChoice;
-ghost use mathlib.Core.Bool.{cond, _&&_};
+ghost use mathlib.Core.Bool.{cond};
 ghost use mathlib.Core.List.{[], _∷_};
 ghost use mathlib.Core.Path.{_≡_};
 ghost use Prim.Native.Nat.{_+_, _*_, _%_};
-ghost use lib.Dec.{eqb};
 ghost use lib.ListN.{length};
 ghost use Rattle.lists.specs.Every.{equal};
 ghost use Rattle.residue.specs.Field.{generator, powq};
@@ -16,16 +14,6 @@ ghost use Rattle.answers.specs.Tests.{inRange};
 ghost use Rattle.slots.specs.Ready.{Ready};
 ghost use Rattle.stages.specs.Sealing.{keyBytes, rImage};
 ghost use Rattle.calls_open_3.specs.OpenThree.{OpenThree};
-
-// Whether each buffer has the length that the set decides.
-fn lengths(s: Parameters, image: usize, hblock: usize, key: usize) -> bool
-    ensures { λ r. ⌜ r ≡ (eqb image (s .packed) && (eqb hblock (s .hblock) && eqb key (s .key))) ⌝ }
-{
-    answers::both(
-        image == s.packed,
-        answers::both(hblock == s.hblock, key == s.key),
-    )
-}
 
 // With buffers of the right lengths. The images are compared in all slots, whatever the first ones hold.
 fn open_3_in(
@@ -60,7 +48,8 @@ pub fn open_3(set: usize, image: &[u8], hblock: &[u8], key: &mut [u8]) -> Answer
     match answers::set_of(set) {
         SetChoice::Unknown => Answer::UnknownSet,
         SetChoice::Known(s) => {
-            if !lengths(s, image.len(), hblock.len(), key.len()) {
+            let keys = (hblock.len() == s.hblock) & (key.len() == s.key);
+            if !((image.len() == s.packed) & keys) {
                 return Answer::WrongLength;
             }
             let n = s.n;

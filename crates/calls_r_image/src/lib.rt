@@ -33,7 +33,7 @@ pub fn r_image(set: usize, hblock: &[u8], image: &mut [u8]) -> Answer
     match answers::set_of(set) {
         SetChoice::Unknown => Answer::UnknownSet,
         SetChoice::Known(s) => {
-            if !answers::both(hblock.len() == s.hblock, image.len() == s.packed) {
+            if !((hblock.len() == s.hblock) & (image.len() == s.packed)) {
                 return Answer::WrongLength;
             }
             let n = s.n;

@@ -2,11 +2,9 @@
 use answers::Answer;
 use answers::Parameters;
 use answers::SetChoice;
-ghost use mathlib.Core.Bool.{_&&_};
 ghost use mathlib.Core.List.{[], _∷_};
 ghost use mathlib.Core.Path.{_≡_};
 ghost use Prim.Native.Nat.{_+_, _*_, _%_};
-ghost use lib.Dec.{eqb};
 ghost use lib.ListN.{length};
 ghost use Rattle.residue.specs.Field.{generator, powq};
 ghost use Rattle.packing.specs.Packing.{groups};
@@ -17,29 +15,6 @@ ghost use Rattle.answers.specs.Tests.{inRange};
 ghost use Rattle.slots.specs.Ready.{Ready};
 ghost use Rattle.stages.specs.Sealing.{keyBytes, ciphertext};
 ghost use Rattle.calls_seal.specs.Seal.{Seal};
-
-// Whether each buffer has the length that the set decides.
-fn lengths(
-    s: Parameters,
-    public: usize,
-    message: usize,
-    hblock: usize,
-    gblock: usize,
-    cipher: usize,
-    key: usize,
-) -> bool
-    ensures { λ r. ⌜ r ≡ (eqb public (s .packed) && (eqb message (s .message) && (eqb hblock (s .hblock) && (eqb gblock (s .gblock) && (eqb cipher (s .packed) && eqb key (s .key)))))) ⌝ }
-{
-    let outputs = answers::both(cipher == s.packed, key == s.key);
-    let blocks = answers::both(
-        hblock == s.hblock,
-        answers::both(gblock == s.gblock, outputs),
-    );
-    answers::both(
-        public == s.packed,
-        answers::both(message == s.message, blocks),
-    )
-}
 
 // With buffers of the right lengths. Nothing is written before all groups of the public key are known to be residues.
 fn seal_in(
@@ -123,15 +98,9 @@ pub fn seal(
     match answers::set_of(set) {
         SetChoice::Unknown => Answer::UnknownSet,
         SetChoice::Known(s) => {
-            if !lengths(
-                s,
-                public.len(),
-                message.len(),
-                hblock.len(),
-                gblock.len(),
-                cipher.len(),
-                key.len(),
-            ) {
+            let outputs = (cipher.len() == s.packed) & (key.len() == s.key);
+            let blocks = (hblock.len() == s.hblock) & ((gblock.len() == s.gblock) & outputs);
+            if !((public.len() == s.packed) & ((message.len() == s.message) & blocks)) {
                 return Answer::WrongLength;
             }
             seal_known(s, public, message, hblock, gblock, cipher, key)

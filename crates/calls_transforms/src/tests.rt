@@ -16,7 +16,7 @@ pub(crate) fn test_list(set: usize, a: &[u16], room: usize) -> Tested
     match answers::set_of(set) {
         SetChoice::Unknown => Tested::Refused(Answer::UnknownSet),
         SetChoice::Known(s) => {
-            if !answers::both(a.len() == s.n, room == s.n) {
+            if !((a.len() == s.n) & (room == s.n)) {
                 return Tested::Refused(Answer::WrongLength);
             }
             let at = residue::scan::first_large(a);

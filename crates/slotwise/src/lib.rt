@@ -1,7 +1,6 @@
 // Images worked on slot by slot: sum, difference, product, inverses; the first slot that is zero; whether two lists are equal.
 use residue::Residue;
 ghost use mathlib.Core.Path.{_≡_};
-ghost use mathlib.Core.Bool.{_&&_};
 ghost use lib.ListN.{length};
 ghost use Rattle.lists.specs.First.{firstWhere};
 ghost use Rattle.lists.specs.Every.{equal};
@@ -66,12 +65,6 @@ pub fn first_zero(a: &[u16]) -> usize
     i
 }
 
-fn both(a: bool, b: bool) -> bool
-    ensures { λ r. ⌜ r ≡ (a && b) ⌝ }
-{
-    if a { b } else { false }
-}
-
 // It does not stop at the first difference: all places are read, so that the number of turns tells nothing of where the lists differ.
 pub fn same(a: &[u16], b: &[u16]) -> bool
     requires { ⌜ length (now a) ≡ length (now b) ⌝ }
@@ -79,7 +72,7 @@ pub fn same(a: &[u16], b: &[u16]) -> bool
 {
     let mut same = true;
     for i in 0..a.len() {
-        same = both(a[i] == b[i], same);
+        same = (a[i] == b[i]) & same;
     }
     same
 }

@@ -1,7 +1,6 @@
 // The reading of input lines: every public function takes the very bytes that it judges, and asks nothing of them.
 use crate::Number;
 use crate::Term;
-use answers::both;
 ghost use mathlib.Core.Path.{_≡_};
 ghost use mathlib.Core.Bool.{true};
 ghost use Prim.Native.Nat.{_-_, _≤_};
@@ -66,7 +65,7 @@ pub fn begins(name: &[u8], s: &[u8]) -> bool
 fn is_digit(byte: u8) -> bool
     ensures { λ r. ⌜ r ≡ isDigit byte ⌝ }
 {
-    both(b'0' <= byte, byte <= b'9')
+    (b'0' <= byte) & (byte <= b'9')
 }
 
 fn all_digits(s: &[u8]) -> bool
@@ -109,7 +108,7 @@ fn is_number(s: &[u8]) -> bool
     ensures { λ r. ⌜ r ≡ isNumber (now (s .entry)) ⌝ }
 {
     let size = s.len();
-    both(1 <= size, both(size <= 5, both(all_digits(s), unpadded(s))))
+    (1 <= size) & ((size <= 5) & (all_digits(s) & unpadded(s)))
 }
 
 // The digits are summed up only where there are few enough of them.
@@ -144,10 +143,7 @@ fn term(s: &[u8]) -> Term
 fn in_range(n: usize, low: usize, index: usize, value: usize) -> bool
     ensures { λ r. ⌜ r ≡ allowed n low index value ⌝ }
 {
-    both(
-        low <= index,
-        both(index < n, both(1 <= value, value <= 3456)),
-    )
+    (low <= index) & ((index < n) & ((1 <= value) & (value <= 3456)))
 }
 
 fn clear(list: &mut [u16])

@@ -59,10 +59,10 @@ set : (c : tie.After-s) → IsSet (at-start c .args .set) (chosen c)
 set c = known-set _ _ (known c)
 
 abbrev at-s : tie.Else1 → tie.After-s
-at-s c = c .before .before .before
+at-s c = c .before .before
 
 fit : (c : tie.Else1) → fits (at-start (at-s c)) (chosen (at-s c)) ≡ true
-fit c = sym (c .before .lengths .ensures) ∙ not-false _ (c .if1 .left)
+fit c = not-false _ (c .if1 .left)
 
 lengths : (c : tie.Else1) → let s = at-start (at-s c) in let n = chosen (at-s c) .n in
     (length (now (s .args .a)) ≡ n) × (length (now (s .args .b)) ≡ n) × (length (now (s .args .out)) ≡ n)
@@ -86,10 +86,10 @@ place c =
     (c .before .first-large2 .ensures ∙ sym (through-one tooLarge (now (s .args .b)))) (c .through .ensures)
 
 abbrev at-else1 : tie.Else2 → tie.Else1
-at-else1 c = c .before .before .before .before .before
+at-else1 c = c .before .before .before .before
 
 clear : (c : tie.Else2) → length (flatten (inputs (at-start (at-s (at-else1 c))))) ≤ firstThrough tooLarge (inputs (at-start (at-s (at-else1 c))))
-clear c = omega (arith, long (at-else1 c), place (c .before .before), c .if2 .left)
+clear c = omega (arith, long (at-else1 c), place (c .before), c .if2 .left)
 
 -- ---- the needs
 
@@ -102,16 +102,12 @@ enum-told c = omega arith
 enum-known-s : tie.Need-enum-known-s
 enum-known-s c = omega arith
 
-lengths-requires : tie.Need-lengths-requires
-lengths-requires c κs = tt
-
 returns : tie.Need-returns
 unfolding Product productReply leaves
 returns c =
-    let k = c .before .before .before in
+    let k = c .before .before in
     let s = at-start k in
-    wrong-length (Holds s (now (s .args .out))) (s .args .set) (fits s) (rest s) (chosen k) (known k)
-    (sym (c .before .lengths .ensures) ∙ not-true _ (c .if1 .taken)) refl
+    wrong-length (Holds s (now (s .args .out))) (s .args .set) (fits s) (rest s) (chosen k) (known k) (not-true _ (c .if1 .taken)) refl
 
 first-large-requires : tie.Need-first-large-requires
 first-large-requires c κs = tt
@@ -127,16 +123,16 @@ through-requires c κs =
     omega (arith, set k .small, lengths e, c .first-large2 .ensures, first-within tooLarge (now (at-start k .args .b)))
 
 add-if2 : tie.Need-add-if2
-add-if2 c = omega (arith, set (at-s (c .before .before .before .before)) .small)
+add-if2 c = omega (arith, set (at-s (c .before .before .before)) .small)
 
 returns-2 : tie.Need-returns-2
 unfolding Product productReply leaves
 returns-2 c =
-    let e = c .before .before .before .before .before in
+    let e = c .before .before .before .before in
     let k = at-s e in
     let s = at-start k in
     right-lengths (Holds s (now (s .args .out))) (s .args .set) (fits s) (rest s) (chosen k) (known k) (fit e) _
-    (too-large (Holds s (now (s .args .out))) (inputs s) (reply 0 0) _ (place (c .before .before)) (omega (arith, c .if2 .taken, long e)) refl)
+    (too-large (Holds s (now (s .args .out))) (inputs s) (reply 0 0) _ (place (c .before)) (omega (arith, c .if2 .taken, long e)) refl)
 
 product-requires : tie.Need-product-requires
 product-requires c κs =
@@ -180,7 +176,6 @@ product-spec =
     set-of-requires
     enum-told
     enum-known-s
-    lengths-requires
     returns
     first-large-requires
     first-large-requires-2

@@ -26,7 +26,7 @@ abbrev at-start : tie.After-s → tie.Start
 at-start c = c .before .before .before .before .before
 
 abbrev at-s : tie.Else1 → tie.After-s
-at-s c = c .before .before .before .before .before
+at-s c = c .before .before .before .before
 
 abbrev at-else1 : tie.After-numbers → tie.Else1
 at-else1 c = c .before .before
@@ -48,7 +48,7 @@ n-room c = set c .small
 
 fit : (c : tie.Else1) → let s = at-start (at-s c) .args in
     fits (length (now (s .hblock))) (length (now (s .image))) (chosen (at-s c)) ≡ true
-fit c = sym (c .before .both .ensures) ∙ not-false _ (c .if1 .left)
+fit c = not-false _ (c .if1 .left)
 
 lengths : (c : tie.Else1) → let s = at-start (at-s c) .args in let p = chosen (at-s c) in
     (length (now (s .hblock)) ≡ p .hblock) × (length (now (s .image)) ≡ p .packed)
@@ -65,14 +65,12 @@ enum-told c = search needs
 enum-known-s : tie.Need-enum-known-s
 enum-known-s c = search needs
 
-both-requires : tie.Need-both-requires
-both-requires c κs = search needs
-
 returns : tie.Need-returns
 unfolding RImage rImageReply leaves
 returns c =
-    let s = at-start (c .before .before .before .before .before) .args in
-    wrong-length _ (s .set) _ _ _ (known (c .before .before .before .before .before)) (sym (c .before .both .ensures) ∙ not-true _ (c .if1 .taken)) refl
+    let k = c .before .before .before .before in
+    let s = at-start k .args in
+    wrong-length _ (s .set) _ _ _ (known k) (not-true _ (c .if1 .taken)) refl
 
 powers-requires : tie.Need-powers-requires
 powers-requires c κs = search needs
@@ -118,7 +116,6 @@ r-image-spec =
     set-of-requires
     enum-told
     enum-known-s
-    both-requires
     returns
     powers-requires
     numbers-requires

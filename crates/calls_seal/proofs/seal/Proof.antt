@@ -23,7 +23,7 @@ abbrev at-start : tie.After-s → tie.Start
 at-start c = c .before .before .before .before .before .before .before .before .before
 
 abbrev at-s : tie.Else1 → tie.After-s
-at-s c = c .before .before .before
+at-s c = c .before .before .before .before .before .before .before .before
 
 -- ---- what is known where the set is, and where the lengths are right
 
@@ -35,7 +35,7 @@ known c = sym (c .before .before .set-of .ensures) ∙ c .s .given .1
 
 fit : (c : tie.Else1) → let s = at-start (at-s c) .args in
     fits (length (now (s .public))) (length (now (s .message))) (length (now (s .hblock))) (length (now (s .gblock))) (length (now (s .cipher))) (length (now (s .key))) (chosen (at-s c)) ≡ true
-fit c = sym (c .before .lengths .ensures) ∙ not-false _ (c .if1 .left)
+fit c = not-false _ (c .if1 .left)
 
 -- ---- the needs
 
@@ -48,14 +48,12 @@ enum-told c = search needs
 enum-known-s : tie.Need-enum-known-s
 enum-known-s c = search needs
 
-lengths-requires : tie.Need-lengths-requires
-lengths-requires c κs = search needs
-
 returns : tie.Need-returns
 unfolding Seal sealReply leaves
 returns c =
-    let s = at-start (c .before .before .before) .args in
-    wrong-length _ (s .set) _ _ _ (known (c .before .before .before)) (sym (c .before .lengths .ensures) ∙ not-true _ (c .if1 .taken)) (refl, refl)
+    let k = c .before .before .before .before .before .before .before .before in
+    let s = at-start k .args in
+    wrong-length _ (s .set) _ _ _ (known k) (not-true _ (c .if1 .taken)) (refl, refl)
 
 seal-known-requires : tie.Need-seal-known-requires
 seal-known-requires c κs =
@@ -87,7 +85,6 @@ seal-spec =
     set-of-requires
     enum-told
     enum-known-s
-    lengths-requires
     returns
     seal-known-requires
     returns-2

@@ -21,20 +21,17 @@ abbrev μ-loop : tie.MeasureT-loop
 loop-holds : tie.Need-loop-holds Inv-loop μ-loop
 loop-holds c = (omega arith, sym (agree-none _ _))
 
-mul-both : tie.Need-mul-both Inv-loop μ-loop
-mul-both c = omega arith
+mul-same : tie.Need-mul-same Inv-loop μ-loop
+mul-same c = omega arith
 
-shared-slice-read-both : tie.Need-shared-slice-read-both Inv-loop μ-loop
-shared-slice-read-both c = omega arith
+shared-slice-read-same : tie.Need-shared-slice-read-same Inv-loop μ-loop
+shared-slice-read-same c = omega arith
 
-mul-both-2 : tie.Need-mul-both-2 Inv-loop μ-loop
-mul-both-2 c = omega arith
+mul-same-2 : tie.Need-mul-same-2 Inv-loop μ-loop
+mul-same-2 c = omega arith
 
-shared-slice-read-both-2 : tie.Need-shared-slice-read-both-2 Inv-loop μ-loop
-shared-slice-read-both-2 c = omega arith
-
-both-requires : tie.Need-both-requires Inv-loop μ-loop
-both-requires c κs = tt
+shared-slice-read-same-2 : tie.Need-shared-slice-read-same-2 Inv-loop μ-loop
+shared-slice-read-same-2 c = omega arith
 
 add-i : tie.Need-add-i Inv-loop μ-loop
 add-i c = omega arith
@@ -44,15 +41,15 @@ loop-less c = omega arith
 
 loop-again : tie.Need-loop-again Inv-loop μ-loop
 loop-again c =
-    let l = c .before .before .before .before in
-    let s = l .before .before .before in
+    let l = c .before .before .before in
+    let s = l .before in
     let here = eqb (getD (now (s .args .a)) (l .loop .i) 0) (getD (now (s .args .b)) (l .loop .i) 0) in
-    (omega arith, c .both .ensures ∙ ap (λ t. here && t) (l .loop .inv .1) ∙ sym (agree-more _ _ (l .loop .i)))
+    (omega arith, ap (λ t. here && t) (l .loop .inv .1) ∙ sym (agree-more _ _ (l .loop .i)))
 
 returns : tie.Need-returns Inv-loop μ-loop
 returns c =
     let l = c .before .loop in
-    let s = c .before .before .before .before in
+    let s = c .before .before in
     l .inv .1 ∙ sym (agree-equal (l .i) (now (s .args .a)) (now (s .args .b)) (omega arith) (omega arith))
 
 pub same-spec : {M : Type 1} → statement M
@@ -62,11 +59,10 @@ same-spec =
     Inv-loop
     μ-loop
     loop-holds
-    mul-both
-    shared-slice-read-both
-    mul-both-2
-    shared-slice-read-both-2
-    both-requires
+    mul-same
+    shared-slice-read-same
+    mul-same-2
+    shared-slice-read-same-2
     add-i
     loop-less
     loop-again

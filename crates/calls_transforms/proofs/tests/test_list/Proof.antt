@@ -51,10 +51,10 @@ known : (c : tie.After-s) → setOf (at-start c .args .set) ≡ Known (chosen c)
 known c = sym (c .before .before .set-of .ensures) ∙ c .s .given .1
 
 abbrev at-s : tie.Else1 → tie.After-s
-at-s c = c .before .before .before .before .before
+at-s c = c .before .before .before .before
 
 fit : (c : tie.Else1) → fits (at-start (at-s c)) (chosen (at-s c)) ≡ true
-fit c = sym (c .before .both .ensures) ∙ not-false _ (c .if1 .left)
+fit c = not-false _ (c .if1 .left)
 
 lengths : (c : tie.Else1) → let s = at-start (at-s c) in let n = chosen (at-s c) .n in (length (now (s .args .a)) ≡ n) × (s .args .room ≡ n)
 lengths c = let n = chosen (at-s c) .n in let a = first-length _ n _ (fit c) in (a .0, eqb-true _ n (a .1))
@@ -74,15 +74,12 @@ enum-told c = omega arith
 enum-known-s : tie.Need-enum-known-s
 enum-known-s c = omega arith
 
-both-requires : tie.Need-both-requires
-both-requires c κs = tt
-
 returns : tie.Need-returns
 unfolding Tells listReply
 returns c =
-    let k = c .before .before .before .before .before in
+    let k = c .before .before .before .before in
     let s = at-start k in
-    wrong-length Refuses (s .args .set) (fits s) (rest s) (chosen k) (known k) (sym (c .before .both .ensures) ∙ not-true _ (c .if1 .taken)) (λ e. omega (arith, e))
+    wrong-length Refuses (s .args .set) (fits s) (rest s) (chosen k) (known k) (not-true _ (c .if1 .taken)) (λ e. omega (arith, e))
 
 first-large-requires : tie.Need-first-large-requires
 first-large-requires c κs = tt
@@ -122,7 +119,6 @@ test-list-spec =
     set-of-requires
     enum-told
     enum-known-s
-    both-requires
     returns
     first-large-requires
     returns-2
