@@ -1,4 +1,4 @@
--- What `make` owes where the set is known: the lengths that passed the test, and the promise from what is owed with the set's own root.
+-- What `make` owes where the set is known and the lengths are right: the promise, from what is owed with the set's own root.
 -- Assumes nothing.
 use mathlib.Core.Bool.{Bool, true, _&&_}
 use mathlib.Core.List.{List, [], _∷_}
@@ -6,7 +6,6 @@ use mathlib.Core.Path.{_≡_}
 use Prim.Native.Nat.{ℕ}
 use lib.Dec.{eqb}
 use lib.ListN.{length}
-use borrow.Author.Tests.{eqb-true}
 use Rattle.residue.specs.Field.{generator, powq}
 use Rattle.algebra.specs.SlotBySlot.{isZero}
 use Rattle.answers.specs.declared.Answer.{Answer}
@@ -17,20 +16,12 @@ use Rattle.answers.specs.Sets.{setOf, forSet}
 use Rattle.answers.specs.Tests.{atFirst}
 use Rattle.stages.specs.Making.{smallF, smallG, fImage, gImage, publicKey, privateKey}
 use Rattle.answers.proofs.Exits.{right-lengths}
-use Rattle.answers.proofs.Lengths.{first-length}
 use Rattle.answers.proofs.SetLaws.{known-set}
 use Rattle.calls_make.specs.Make.{makeReply, publicOf, privateOf, Make}
 
 -- the test of the lengths
 abbrev pub fits : (seed public private : ℕ) → Parameters → Bool
 fits seed public private s = eqb seed (s .seed) && (eqb public (s .packed) && eqb private (s .private))
-
-pub right : (seed public private : ℕ) (s : Parameters) → fits seed public private s ≡ true
-    → (seed ≡ s .seed) × (public ≡ s .packed) × (private ≡ s .private)
-right seed public private s e =
-    let a = first-length seed (s .seed) (eqb public (s .packed) && eqb private (s .private)) e in
-    let b = first-length public (s .packed) (eqb private (s .private)) (a .1) in
-    (a .0, b .0, eqb-true private (s .private) (b .1))
 
 module _ (seed public private public′ private′ : List ℕ) where
   -- what is answered once the lengths are right, and what the buffers hold then, with h = n/2 and the root w

@@ -6,7 +6,6 @@ use mathlib.Core.Path.{_≡_}
 use Prim.Native.Nat.{ℕ}
 use lib.Dec.{eqb}
 use lib.ListN.{length}
-use borrow.Author.Tests.{eqb-true}
 use Rattle.residue.specs.Field.{generator, powq}
 use Rattle.packing.specs.Packing.{groups}
 use Rattle.answers.specs.declared.Answer.{Answer}
@@ -17,7 +16,7 @@ use Rattle.answers.specs.Sets.{setOf, forSet}
 use Rattle.answers.specs.Tests.{inRange}
 use Rattle.stages.specs.Opening.{openedMarks, openedImage}
 use Rattle.answers.proofs.Exits.{right-lengths}
-use Rattle.answers.proofs.Lengths.{first-length}
+use Rattle.answers.proofs.Lengths.{first-length, three-lengths}
 use Rattle.answers.proofs.SetLaws.{known-set}
 use Rattle.calls_open_1.specs.OpenOne.{openOneReply, marksOf, openedImageOf, OpenOne}
 
@@ -29,9 +28,8 @@ pub right : (private cipher marks image : ℕ) (s : Parameters) → fits private
     → (private ≡ s .private) × (cipher ≡ s .packed) × (marks ≡ s .n) × (image ≡ s .packed)
 right private cipher marks image s e =
     let a = first-length private (s .private) _ e in
-    let b = first-length cipher (s .packed) _ (a .1) in
-    let c = first-length marks (s .n) _ (b .1) in
-    (a .0, b .0, c .0, eqb-true image (s .packed) (c .1))
+    let b = three-lengths cipher (s .packed) marks (s .n) image (s .packed) (a .1) in
+    (a .0, b .0, b .1, b .2)
 
 module _ (private cipher marks image marks′ image′ : List ℕ) where
   -- what the buffers hold where R is answered, with h = n/2 and the root w

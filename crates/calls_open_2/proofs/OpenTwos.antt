@@ -1,4 +1,4 @@
--- What `open_2` owes where the set is known: the lengths that passed the test, and the promise.
+-- What `open_2` owes where the set is known and the lengths are right: the promise.
 -- Assumes nothing.
 use mathlib.Core.Bool.{Bool, true, _&&_}
 use mathlib.Core.List.{List, [], _∷_}
@@ -6,7 +6,6 @@ use mathlib.Core.Path.{_≡_}
 use Prim.Native.Nat.{ℕ}
 use lib.Dec.{eqb}
 use lib.ListN.{length}
-use borrow.Author.Tests.{eqb-true}
 use Rattle.marks.specs.Marks.{noMark}
 use Rattle.answers.specs.declared.Answer.{Answer}
 use Rattle.answers.specs.declared.Parameters.{Parameters}
@@ -16,19 +15,11 @@ use Rattle.answers.specs.Sets.{setOf}
 use Rattle.answers.specs.Tests.{atFirst}
 use Rattle.stages.specs.Opening.{openedMessage}
 use Rattle.answers.proofs.Exits.{right-lengths}
-use Rattle.answers.proofs.Lengths.{first-length}
 use Rattle.calls_open_2.specs.OpenTwo.{openTwoReply, OpenTwo}
 
 -- the test of the lengths
 abbrev pub fits : (marks gblock message : ℕ) → Parameters → Bool
 fits marks gblock message s = eqb marks (s .n) && (eqb gblock (s .gblock) && eqb message (s .message))
-
-pub right : (marks gblock message : ℕ) (s : Parameters) → fits marks gblock message s ≡ true
-    → (marks ≡ s .n) × (gblock ≡ s .gblock) × (message ≡ s .message)
-right marks gblock message s e =
-    let a = first-length marks (s .n) _ e in
-    let b = first-length gblock (s .gblock) _ (a .1) in
-    (a .0, b .0, eqb-true message (s .message) (b .1))
 
 module _ (marks gblock message message′ : List ℕ) where
   -- what the buffer holds where R is answered

@@ -1,4 +1,4 @@
--- What `open_3` owes where the set is known: the lengths that passed the test, and the promise from what is owed with the set's own root.
+-- What `open_3` owes where the set is known and the lengths are right: the promise, from what is owed with the set's own root.
 -- Assumes nothing.
 use mathlib.Core.Bool.{Bool, true, cond, _&&_}
 use mathlib.Core.List.{List, [], _∷_}
@@ -6,7 +6,6 @@ use mathlib.Core.Path.{_≡_}
 use Prim.Native.Nat.{ℕ}
 use lib.Dec.{eqb}
 use lib.ListN.{length}
-use borrow.Author.Tests.{eqb-true}
 use Rattle.lists.specs.Every.{equal}
 use Rattle.residue.specs.Field.{generator, powq}
 use Rattle.packing.specs.Packing.{groups}
@@ -18,19 +17,12 @@ use Rattle.answers.specs.Sets.{setOf}
 use Rattle.answers.specs.Tests.{inRange}
 use Rattle.stages.specs.Sealing.{keyBytes, rImage}
 use Rattle.answers.proofs.Exits.{right-lengths}
-use Rattle.answers.proofs.Lengths.{first-length}
 use Rattle.answers.proofs.SetLaws.{known-set}
 use Rattle.calls_open_3.specs.OpenThree.{openThreeReply, OpenThree}
 
 -- the test of the lengths
 abbrev pub fits : (image hblock key : ℕ) → Parameters → Bool
 fits image hblock key s = eqb image (s .packed) && (eqb hblock (s .hblock) && eqb key (s .key))
-
-pub right : (image hblock key : ℕ) (s : Parameters) → fits image hblock key s ≡ true → (image ≡ s .packed) × (hblock ≡ s .hblock) × (key ≡ s .key)
-right image hblock key s e =
-    let a = first-length image (s .packed) _ e in
-    let b = first-length hblock (s .hblock) _ (a .1) in
-    (a .0, b .0, eqb-true key (s .key) (b .1))
 
 module _ (image hblock key key′ : List ℕ) where
   -- what is answered once no group is too large, with h = n/2 and the root w

@@ -1,4 +1,4 @@
--- What `r_image` owes where the set is known: the lengths that passed the test, and the promise from what is written with the set's own root.
+-- What `r_image` owes where the set is known and the lengths are right: the promise, from what is written with the set's own root.
 -- Assumes nothing.
 use mathlib.Core.Bool.{Bool, true, _&&_}
 use mathlib.Core.List.{List}
@@ -6,7 +6,6 @@ use mathlib.Core.Path.{_≡_}
 use Prim.Native.Nat.{ℕ}
 use lib.Dec.{eqb}
 use lib.ListN.{length}
-use borrow.Author.Tests.{eqb-true}
 use Rattle.residue.specs.Field.{generator, powq}
 use Rattle.packing.specs.Packing.{packed}
 use Rattle.answers.specs.declared.Answer.the-variants.{Done}
@@ -16,18 +15,12 @@ use Rattle.answers.specs.Replies.{leaves}
 use Rattle.answers.specs.Sets.{setOf, forSet}
 use Rattle.stages.specs.Sealing.{rImage}
 use Rattle.answers.proofs.Exits.{done, right-lengths}
-use Rattle.answers.proofs.Lengths.{first-length}
 use Rattle.answers.proofs.SetLaws.{known-set}
 use Rattle.calls_r_image.specs.RImage.{rImageReply, rImageOf, RImage}
 
 -- the test of the lengths
 abbrev pub fits : (hblock image : ℕ) → Parameters → Bool
 fits hblock image s = eqb hblock (s .hblock) && eqb image (s .packed)
-
-pub right : (hblock image : ℕ) (s : Parameters) → fits hblock image s ≡ true → (hblock ≡ s .hblock) × (image ≡ s .packed)
-right hblock image s e =
-    let a = first-length hblock (s .hblock) (eqb image (s .packed)) e in
-    (a .0, eqb-true image (s .packed) (a .1))
 
 pub owed : (hblock image image′ : List ℕ) (set : ℕ) (s : Parameters) → setOf set ≡ Known s → fits (length hblock) (length image) s ≡ true
     → image′ ≡ packed (rImage (s .half) (powq generator (s .step)) hblock) → RImage set hblock image Done image′

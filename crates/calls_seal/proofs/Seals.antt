@@ -6,7 +6,6 @@ use mathlib.Core.Path.{_≡_}
 use Prim.Native.Nat.{ℕ}
 use lib.Dec.{eqb}
 use lib.ListN.{length}
-use borrow.Author.Tests.{eqb-true}
 use Rattle.residue.specs.Field.{generator, powq}
 use Rattle.packing.specs.Packing.{groups}
 use Rattle.answers.specs.declared.Answer.{Answer}
@@ -17,7 +16,7 @@ use Rattle.answers.specs.Sets.{setOf, forSet}
 use Rattle.answers.specs.Tests.{inRange}
 use Rattle.stages.specs.Sealing.{keyBytes, ciphertext}
 use Rattle.answers.proofs.Exits.{right-lengths}
-use Rattle.answers.proofs.Lengths.{first-length}
+use Rattle.answers.proofs.Lengths.{first-length, three-lengths}
 use Rattle.answers.proofs.SetLaws.{known-set}
 use Rattle.calls_seal.specs.Seal.{sealReply, cipherOf, Seal}
 
@@ -32,9 +31,8 @@ right public message hblock gblock cipher key s e =
     let a = first-length public (s .packed) _ e in
     let b = first-length message (s .message) _ (a .1) in
     let c = first-length hblock (s .hblock) _ (b .1) in
-    let d = first-length gblock (s .gblock) _ (c .1) in
-    let f = first-length cipher (s .packed) _ (d .1) in
-    (a .0, b .0, c .0, d .0, f .0, eqb-true key (s .key) (f .1))
+    let d = three-lengths gblock (s .gblock) cipher (s .packed) key (s .key) (c .1) in
+    (a .0, b .0, c .0, d .0, d .1, d .2)
 
 module _ (public message hblock gblock cipher key cipher′ key′ : List ℕ) where
   -- what the buffers hold where R is answered, with h = n/2 and the root w

@@ -23,8 +23,8 @@ use Rattle.calls_make.specs.Make.{makeReply, publicOf, privateOf, Make}
 use Rattle.calls_seal.specs.Seal.{sealReply, cipherOf, Seal}
 use Rattle.lists.proofs.FirstLaws.{first-before, through-clear, through-one, length-one}
 use Rattle.answers.proofs.Exits.{for-known}
+use Rattle.answers.proofs.Lengths.{three-lengths}
 use Rattle.stages.proofs.ImageLaws.{imageOf-residues}
-use Rattle.calls_make.proofs.Makes as M
 use Rattle.calls_seal.proofs.Seals as S
 use Rattle.demands.specs.Agreement.{Made, Sealed}
 use Rattle.demands.proofs.Answered.{written, passed, is-known, nowhere}
@@ -78,7 +78,7 @@ module _ {set : ℕ} where
         let zero = sym (m .call .number) ∙ m .done in
         let a = passed set _ _ s known zero in
         record {
-          seed-long = M.right (length seed) (length (m .public₀)) (length (m .private₀)) s (a .0) .0;
+          seed-long = three-lengths (length seed) (s .seed) (length (m .public₀)) (s .packed) (length (m .private₀)) (s .private) (a .0) .0;
           pair = pair-of (s .half) (s .root) seed (nowhere 4 isZero _ (reply 0 0) (λ e. omega (arith, e)) (a .1));
           public-is = m .call .content .0 ∙ written _ _ (m .public₀) zero ∙ for-known set s [] (λ p. publicKey (p .half) (p .root) seed) known;
           private-is = m .call .content .1 ∙ written _ _ (m .private₀) zero ∙ for-known set s [] (λ p. privateKey (p .half) (p .root) seed) known;

@@ -14,9 +14,10 @@ use Rattle.answers.specs.Replies.{leaves}
 use Rattle.answers.specs.Sets.{setOf}
 use Rattle.rooms.proofs.RoomLaws.{part-long}
 use Rattle.answers.proofs.Exits.{unknown-set, wrong-length}
+use Rattle.answers.proofs.Lengths.{three-lengths}
 use Rattle.answers.proofs.SetLaws.{IsSet, known-set}
 use Rattle.calls_make.specs.Make.{makeReply, Make}
-use Rattle.calls_make.proofs.Makes.{fits, right, owed}
+use Rattle.calls_make.proofs.Makes.{fits, owed}
 use Rattle.calls_make.proofs.make.Statement.{statement}
 use Rattle.calls_make.proofs.make.Tie as tie
 
@@ -55,7 +56,7 @@ fit c = not-false _ (c .if1 .left)
 
 lengths : (c : tie.Else1) → let s = at-start (at-s c) .args in let p = chosen (at-s c) in
     (length (now (s .seed)) ≡ p .seed) × (length (now (s .public)) ≡ p .packed) × (length (now (s .private)) ≡ p .private)
-lengths c = let s = at-start (at-s c) .args in right (length (now (s .seed))) (length (now (s .public))) (length (now (s .private))) (chosen (at-s c)) (fit c)
+lengths c = three-lengths _ _ _ _ _ _ (fit c)
 
 -- ---- the needs
 

@@ -14,9 +14,10 @@ use Rattle.answers.specs.Replies.{leaves}
 use Rattle.answers.specs.Sets.{setOf}
 use Rattle.rooms.proofs.RoomLaws.{part-long}
 use Rattle.answers.proofs.Exits.{unknown-set, wrong-length}
+use Rattle.answers.proofs.Lengths.{three-lengths}
 use Rattle.answers.proofs.SetLaws.{IsSet, known-set}
 use Rattle.calls_open_2.specs.OpenTwo.{openTwoReply, OpenTwo}
-use Rattle.calls_open_2.proofs.OpenTwos.{fits, right, owed}
+use Rattle.calls_open_2.proofs.OpenTwos.{fits, owed}
 use Rattle.calls_open_2.proofs.open_2.Statement.{statement}
 use Rattle.calls_open_2.proofs.open_2.Tie as tie
 
@@ -55,7 +56,7 @@ fit c = not-false _ (c .if1 .left)
 
 lengths : (c : tie.Else1) → let s = at-start (at-s c) .args in let p = chosen (at-s c) in
     (length (now (s .marks)) ≡ p .n) × (length (now (s .gblock)) ≡ p .gblock) × (length (now (s .message)) ≡ p .message)
-lengths c = let s = at-start (at-s c) .args in right (length (now (s .marks))) (length (now (s .gblock))) (length (now (s .message))) (chosen (at-s c)) (fit c)
+lengths c = three-lengths _ _ _ _ _ _ (fit c)
 
 -- ---- the needs
 

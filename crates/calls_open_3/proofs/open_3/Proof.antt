@@ -14,9 +14,10 @@ use Rattle.answers.specs.Replies.{leaves}
 use Rattle.answers.specs.Sets.{setOf}
 use Rattle.rooms.proofs.RoomLaws.{part-long}
 use Rattle.answers.proofs.Exits.{unknown-set, wrong-length}
+use Rattle.answers.proofs.Lengths.{three-lengths}
 use Rattle.answers.proofs.SetLaws.{IsSet, known-set}
 use Rattle.calls_open_3.specs.OpenThree.{openThreeReply, OpenThree}
-use Rattle.calls_open_3.proofs.OpenThrees.{fits, right, owed}
+use Rattle.calls_open_3.proofs.OpenThrees.{fits, owed}
 use Rattle.calls_open_3.proofs.open_3.Statement.{statement}
 use Rattle.calls_open_3.proofs.open_3.Tie as tie
 
@@ -52,7 +53,7 @@ fit c = not-false _ (c .if1 .left)
 
 lengths : (c : tie.Else1) → let s = at-start (at-s c) .args in let p = chosen (at-s c) in
     (length (now (s .image)) ≡ p .packed) × (length (now (s .hblock)) ≡ p .hblock) × (length (now (s .key)) ≡ p .key)
-lengths c = let s = at-start (at-s c) .args in right (length (now (s .image))) (length (now (s .hblock))) (length (now (s .key))) (chosen (at-s c)) (fit c)
+lengths c = three-lengths _ _ _ _ _ _ (fit c)
 
 -- ---- the needs
 

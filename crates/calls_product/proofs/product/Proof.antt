@@ -8,7 +8,7 @@ use native.Mathlib.Omega.{arith}
 use lib.Dec.{eqb}
 use lib.ListN.{length}
 use denote.Ref.{now}
-use borrow.Author.Tests.{not-true, not-false, eqb-true}
+use borrow.Author.Tests.{not-true, not-false}
 use Rattle.lists.specs.First.{firstThrough}
 use Rattle.residue.specs.Large.{tooLarge, firstLarge}
 use Rattle.residue.specs.Residues.{Residues}
@@ -23,7 +23,7 @@ use Rattle.lists.proofs.FirstLaws.{first-within, length-through, length-one, th
 use Rattle.residue.proofs.LargeLaws.{residues-through}
 use Rattle.answers.proofs.Counting.{counted}
 use Rattle.answers.proofs.Exits.{for-known, done, unknown-set, wrong-length, right-lengths, too-large, in-range}
-use Rattle.answers.proofs.Lengths.{first-length}
+use Rattle.answers.proofs.Lengths.{three-lengths}
 use Rattle.answers.proofs.SetLaws.{IsSet, known-set}
 use Rattle.calls_product.specs.Product.{productReply, productOf, Product}
 use Rattle.calls_product.proofs.product.Statement.{statement}
@@ -66,11 +66,7 @@ fit c = not-false _ (c .if1 .left)
 
 lengths : (c : tie.Else1) → let s = at-start (at-s c) in let n = chosen (at-s c) .n in
     (length (now (s .args .a)) ≡ n) × (length (now (s .args .b)) ≡ n) × (length (now (s .args .out)) ≡ n)
-lengths c =
-    let n = chosen (at-s c) .n in
-    let a = first-length _ n _ (fit c) in
-    let b = first-length _ n _ (a .1) in
-    (a .0, b .0, eqb-true _ n (b .1))
+lengths c = three-lengths _ _ _ _ _ _ (fit c)
 
 long : (c : tie.Else1) → length (flatten (inputs (at-start (at-s c)))) ≡ chosen (at-s c) .n + chosen (at-s c) .n
 long c =

@@ -14,9 +14,10 @@ use Rattle.answers.specs.Replies.{leaves}
 use Rattle.answers.specs.Sets.{setOf}
 use Rattle.rooms.proofs.RoomLaws.{part-long}
 use Rattle.answers.proofs.Exits.{unknown-set, wrong-length}
+use Rattle.answers.proofs.Lengths.{two-lengths}
 use Rattle.answers.proofs.SetLaws.{IsSet, known-set}
 use Rattle.calls_r_image.specs.RImage.{rImageReply, RImage}
-use Rattle.calls_r_image.proofs.RImages.{fits, right, owed}
+use Rattle.calls_r_image.proofs.RImages.{fits, owed}
 use Rattle.calls_r_image.proofs.r_image.Statement.{statement}
 use Rattle.calls_r_image.proofs.r_image.Tie as tie
 
@@ -52,7 +53,7 @@ fit c = not-false _ (c .if1 .left)
 
 lengths : (c : tie.Else1) → let s = at-start (at-s c) .args in let p = chosen (at-s c) in
     (length (now (s .hblock)) ≡ p .hblock) × (length (now (s .image)) ≡ p .packed)
-lengths c = let s = at-start (at-s c) .args in right (length (now (s .hblock))) (length (now (s .image))) (chosen (at-s c)) (fit c)
+lengths c = two-lengths _ _ _ _ (fit c)
 
 -- ---- the needs
 

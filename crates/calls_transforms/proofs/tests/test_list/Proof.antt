@@ -8,7 +8,7 @@ use native.Mathlib.Omega.{arith}
 use lib.Dec.{eqb}
 use lib.ListN.{length}
 use denote.Ref.{now}
-use borrow.Author.Tests.{not-true, not-false, eqb-true}
+use borrow.Author.Tests.{not-true, not-false}
 use Rattle.lists.specs.First.{firstThrough}
 use Rattle.residue.specs.Large.{tooLarge, firstLarge}
 use Rattle.answers.specs.declared.Parameters.{Parameters}
@@ -19,7 +19,7 @@ use Rattle.answers.specs.Tests.{inRange}
 use Rattle.lists.proofs.FirstLaws.{length-one, through-one}
 use Rattle.residue.proofs.LargeLaws.{residues-through}
 use Rattle.answers.proofs.Exits.{in-order, clear, unknown-set, wrong-length, right-lengths, too-large}
-use Rattle.answers.proofs.Lengths.{first-length}
+use Rattle.answers.proofs.Lengths.{two-lengths}
 use Rattle.calls_transforms.specs.Tests.{Tells}
 use Rattle.calls_transforms.specs.Transform.{listReply}
 use Rattle.calls_transforms.proofs.tests.test_list.Statement.{statement}
@@ -57,7 +57,7 @@ fit : (c : tie.Else1) → fits (at-start (at-s c)) (chosen (at-s c)) ≡ true
 fit c = not-false _ (c .if1 .left)
 
 lengths : (c : tie.Else1) → let s = at-start (at-s c) in let n = chosen (at-s c) .n in (length (now (s .args .a)) ≡ n) × (s .args .room ≡ n)
-lengths c = let n = chosen (at-s c) .n in let a = first-length _ n _ (fit c) in (a .0, eqb-true _ n (a .1))
+lengths c = two-lengths _ _ _ _ (fit c)
 
 first : (c : tie.After-first-large) → c .first-large .result ≡ firstThrough tooLarge (inputs (at-start (at-s (c .before))))
 unfolding firstLarge
