@@ -4,6 +4,7 @@ pub mod ExactlyWhen
 pub mod Images
 pub mod SlotPlaces
 pub mod Unique
+pub mod Exports
 pub mod Answered
 pub mod AgreementLaws
 pub mod Stages
