@@ -1,10 +1,10 @@
 // Inner steps, exported so that a benchmark can measure them; no part of libface.a. Each tests what its step asks for, and where that fails
-// it does nothing.
+// it does nothing. No list is longer than 4,096, so that no length overflows.
 use residue::scan;
 
 #[no_mangle]
 pub extern "C" fn step_list(bytes: &[u8], bits: &mut [u8]) {
-    if bytes.len() <= 1152 {
+    if bytes.len() <= 4096 {
         if bits.len() == 8 * bytes.len() {
             if bits.len() % 32 == 0 {
                 bits::list(bytes, bits);
@@ -15,7 +15,7 @@ pub extern "C" fn step_list(bytes: &[u8], bits: &mut [u8]) {
 
 #[no_mangle]
 pub extern "C" fn step_sample(block: &[u8], halves: &mut [u8], coefficients: &mut [u16]) {
-    if block.len() <= 1152 {
+    if block.len() <= 4096 {
         if block.len() % 8 == 0 {
             if halves.len() == 8 * block.len() {
                 if coefficients.len() == 4 * block.len() {
@@ -35,7 +35,7 @@ pub extern "C" fn step_encode(
     coefficients: &mut [u16],
 ) {
     let bytes = message.len();
-    if bytes <= 144 {
+    if bytes <= 4096 {
         if bytes % 4 == 0 {
             if block.len() == 2 * bytes {
                 if bits.len() == 8 * bytes {
@@ -52,7 +52,7 @@ pub extern "C" fn step_encode(
 
 #[no_mangle]
 pub extern "C" fn step_pack(list: &[u16], bytes: &mut [u8]) {
-    if list.len() <= 1152 {
+    if list.len() <= 4096 {
         if list.len() % 2 == 0 {
             if bytes.len() == 3 * (list.len() / 2) {
                 if scan::first_large(list) == list.len() {
@@ -66,7 +66,7 @@ pub extern "C" fn step_pack(list: &[u16], bytes: &mut [u8]) {
 // The first group above 3456, or the length of the list.
 #[no_mangle]
 pub extern "C" fn step_unpack(bytes: &[u8], list: &mut [u16]) -> usize {
-    if list.len() <= 1152 {
+    if list.len() <= 4096 {
         if list.len() % 2 == 0 {
             if bytes.len() == 3 * (list.len() / 2) {
                 return packing::unpack(bytes, list);
