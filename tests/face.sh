@@ -20,7 +20,7 @@ expect() {
 header() { "$@" -Wall -Wextra -pedantic -Werror -fsyntax-only -Iinclude -include ringline.h /dev/null; }
 agreed() { tests/link agree && tests/program agree | diff - tests/face/agree.out; }
 
-expect 'the archive' rt staticlib face >/dev/null
+expect 'the archive' tests/archive face
 expect 'the header as C99' header gcc -std=c99 -x c
 expect 'the header as C++98' header g++ -std=c++98 -x c++
 expect 'the header as C++17' header g++ -std=c++17 -x c++
