@@ -75,3 +75,25 @@ pub extern "C" fn step_unpack(bytes: &[u8], list: &mut [u16]) -> usize {
     }
     0
 }
+
+#[no_mangle]
+pub extern "C" fn step_times(a: &[u16], b: &[u16], out: &mut [u16]) {
+    if a.len() == out.len() {
+        if b.len() == out.len() {
+            if scan::first_large(a) == a.len() {
+                if scan::first_large(b) == b.len() {
+                    slotwise::times(a, b, out);
+                }
+            }
+        }
+    }
+}
+
+#[no_mangle]
+pub extern "C" fn step_invert(a: &[u16], out: &mut [u16]) {
+    if a.len() == out.len() {
+        if scan::first_large(a) == a.len() {
+            slotwise::invert(a, out);
+        }
+    }
+}

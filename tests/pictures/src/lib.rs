@@ -1,0 +1,3 @@
+//! Pictures for the pages in docs/.
+
+pub mod svg;
