@@ -3,22 +3,9 @@
 # that stands with its output prints just that.
 set -u
 cd "$(dirname "$0")/.." || exit 2
-passed=0
-failed=0
+. tests/counts
 room=$(mktemp -d)
 trap 'rm -rf "$room"' EXIT
-
-# holds TEXT COMMAND..: the command ends well
-holds() {
-    local text=$1
-    shift
-    if "$@"; then
-        passed=$((passed + 1))
-    else
-        echo "does not hold: $text"
-        failed=$((failed + 1))
-    fi
-}
 
 # links PAGE: the files that it leads to are there
 links() {
@@ -42,12 +29,12 @@ command=''
 expected=$room/expected
 # the block that was read last: a command with its output
 finish() {
-    if [ -n "$command" ] && [ -s "$expected" ]; then holds "\$ $command" prints "$expected" "$command"; fi
+    if [ -n "$command" ] && [ -s "$expected" ]; then holds "$command" prints "$expected" "$command"; fi
     command=''
 }
 
-for page in README.md docs/*.md; do holds "the links of $page" links "$page"; done
-holds 'the pictures' drawn
+for page in README.md docs/*.md; do holds "the links of $page lead to files" links "$page"; done
+holds 'the pictures are drawn so' drawn
 while IFS= read -r line <&3 || [ -n "$line" ]; do
     case $line in
     '    $ '*) finish && command=${line#'    $ '} && : >"$expected" ;;
@@ -56,5 +43,4 @@ while IFS= read -r line <&3 || [ -n "$line" ]; do
     esac
 done 3<docs/HANDBOOK.md
 finish
-echo "$passed passed, $failed failed"
-[ "$failed" -eq 0 ]
+counted

@@ -2,18 +2,10 @@
 # What the house style can be held to by looking at the text alone.
 set -u
 cd "$(dirname "$0")/.." || exit 2
-passed=0
-failed=0
+. tests/counts
 
-# rule NAME OFFENDERS: holds if there are none
-rule() {
-    if [ -z "$2" ]; then
-        passed=$((passed + 1))
-    else
-        printf '%s:\n%s\n' "$1" "$2"
-        failed=$((failed + 1))
-    fi
-}
+# none OFFENDERS: there is none
+none() { [ -z "$1" ] || { printf '%s\n' "$1" && return 1; }; }
 
 reductions=$(grep -rnE '% *3457' crates/*/src | grep -vE ':[0-9]+: *//')
 [ "$(wc -l <<<"$reductions")" -gt 1 ] || reductions=''
@@ -24,11 +16,10 @@ unreasoned=$(for f in crates/*/must-fail/*.edit; do head -n 1 "$f" | grep -vqE '
 demanding=$(awk '/^pub (extern "C" )?fn/ { head = 1 } /^\{/ { head = 0 } head && /requires/ { print FILENAME ":" FNR }' crates/calls_*/src/*.rt crates/face/src/*.rt crates/line/src/lib.rt)
 compared=$(grep -rnE '[=!<>]= *(576|1152)\b' crates/*/src)
 
-rule 'not in the layout of rt fmt' "$(rt fmt --check 2>&1)"
-rule 'more than one reduction by 3457' "$reductions"
-rule 'a file that does not say what it assumes' "$headless"
-rule 'a must-fail edit without its reason on top' "$unreasoned"
-rule 'a public call or export that asks something of its caller' "$demanding"
-rule 'a set number compared outside of the one match' "$compared"
-echo "$passed passed, $failed failed"
-[ "$failed" -eq 0 ]
+holds 'every file is in the layout of rt fmt' none "$(rt fmt --check 2>&1)"
+holds 'one reduction by 3457' none "$reductions"
+holds 'every file says what it assumes' none "$headless"
+holds 'every must-fail edit has its reason on top' none "$unreasoned"
+holds 'no public call and no export asks something of its caller' none "$demanding"
+holds 'no set number is compared outside of the one match' none "$compared"
+counted

@@ -4,31 +4,19 @@
 # nothing. `rt ci` leaves the logs.
 set -u
 cd "$(dirname "$0")/.." || exit 2
-passed=0
-failed=0
+. tests/counts
 
 unfit='has no `Need-.*that can be named from here|expected type `[^`]*\.Need-|record `[^`]*\.Lts[^`]*` *has no field|error: `[^`]*`: `[^`]*` is not in scope'
 
-# the first error of a log, with the lines that belong to it, as one line
-first_error() {
-    awk '/: error/ { if (seen) exit; seen = 1 } /^(fn|struct|enum|logic|library) / { if (seen) exit } seen' "$1" | tr '\n' ' '
+# refused CRATE EDIT: at a fact
+refused() {
+    local log=target/must-fail/$1/$2/.log error
+    [ -f "$log" ] && error=$(awk -f tests/first_error.awk "$log" | tr '\n' ' ') && [ -n "$error" ] || return 1
+    ! grep -qE "$unfit" <<<"$error" || { echo "its text no longer fits: ${error:0:400}" && return 1; }
 }
 
 for edit in crates/*/must-fail/*.edit; do
-    [ -f "$edit" ] || continue
     crate=${edit#crates/}
-    crate=${crate%%/*}
-    log=target/must-fail/$crate/$(basename "$edit" .edit)/.log
-    error=$([ ! -f "$log" ] || first_error "$log")
-    if [ -z "$error" ]; then
-        echo "$edit: no log with an error"
-        failed=$((failed + 1))
-    elif grep -qE "$unfit" <<<"$error"; then
-        echo "$edit: refused only because its text no longer fits: ${error:0:400}"
-        failed=$((failed + 1))
-    else
-        passed=$((passed + 1))
-    fi
+    holds "$edit is refused because a fact fails" refused "${crate%%/*}" "$(basename "$edit" .edit)"
 done
-echo "$passed passed, $failed failed"
-[ "$failed" -eq 0 ]
+counted

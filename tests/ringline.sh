@@ -3,18 +3,11 @@
 # is the expected output to the byte.
 set -u
 cd "$(dirname "$0")/.." || exit 2
-passed=0
-failed=0
+. tests/counts
 
+printed() { tests/program ringline | cmp -s - "tests/ringline/$1.out"; }
 # expect NAME: standard input gives tests/ringline/NAME.out
-expect() {
-    if tests/program ringline | cmp -s - "tests/ringline/$1.out"; then
-        passed=$((passed + 1))
-    else
-        echo "$1: printed something else than tests/ringline/$1.out"
-        failed=$((failed + 1))
-    fi
-}
+expect() { holds "$1 gives tests/ringline/$1.out" printed "$1"; }
 
 # filled TEXT BYTE LENGTH: the text, and then the byte up to that length
 filled() {
@@ -29,5 +22,4 @@ expect bytes_32769_of_lf < <(filled '' '\n' 32769)
 expect bytes_32768_more < <(filled "$good" x 32768)
 expect bytes_32769_good_first < <(filled "$good" x 32769)
 expect bytes_32768_set_1 < <(filled 'set=5\n' x 32768)
-echo "$passed passed, $failed failed"
-[ "$failed" -eq 0 ]
+counted
