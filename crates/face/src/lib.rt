@@ -136,6 +136,7 @@ pub extern "C" fn rl_f_half(set: usize, key: &[u8]) -> Part
     }
 }
 
+// The halves are as long as each other, so this one begins at its own length.
 #[no_mangle]
 pub extern "C" fn rl_h_half(set: usize, key: &[u8]) -> Part
     ensures { λ r. ⌜ PartOf (now (key .entry)) (key .entry .ptr) (HHalf set (now (key .entry)) (key .entry .ptr)) (r .start) (r .length) ⌝ }
