@@ -1,6 +1,5 @@
 //! The table as Markdown, and its place in a page.
 use crate::measure::Row;
-use std::fs;
 use std::process::Command;
 
 const MARKS: [&str; 2] = ["<!-- measured -->\n", "<!-- end -->\n"];
@@ -29,19 +28,12 @@ pub fn put_between_marks(page: &str, text: &str) -> String {
 
 /// As the machine names it.
 fn processor() -> String {
-    let named = |text: String| {
-        let line = text
-            .lines()
-            .find(|line| line.to_lowercase().starts_with("model name"))?
-            .to_string();
+    let named = || {
+        let listed = String::from_utf8(Command::new("lscpu").output().ok()?.stdout).ok()?;
+        let line = listed.lines().find(|line| line.starts_with("Model name"))?;
         Some(line.split_once(':')?.1.trim().to_string())
     };
-    let listed = || named(String::from_utf8(Command::new("lscpu").output().ok()?.stdout).ok()?);
-    fs::read_to_string("/proc/cpuinfo")
-        .ok()
-        .and_then(named)
-        .or_else(listed)
-        .unwrap_or_else(|| "a processor without a name".into())
+    named().unwrap_or_else(|| "a processor without a name".into())
 }
 
 fn archive() -> &'static str {
