@@ -1,4 +1,4 @@
-//! A second implementation of document 01, written from its sentences alone, to compare the library with.
+//! A second implementation of document 01, written from its sentences, to compare the library with.
 //!
 //! It shares no code and no table with the library, and is plain Rust without proofs. The two programs run both on the
 //! same random cases: `compare` on requests to the calls, `lines` on inputs to ringline. Whatever differs is a mistake
