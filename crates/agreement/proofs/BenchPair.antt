@@ -8,17 +8,17 @@ use lib.Dec.{eqb, lit<}
 use lib.IntN.{ℤ, pos, ◌-ℤ◌, +ℤ_idr}
 use lib.ListN.{length, get_or}
 use Rattle.lists.specs.Tab.{tab}
-use Rattle.bits.specs.Bits.{bit, littleEndian, word, bit_of}
-use Rattle.bits.specs.Blocks.{cut, blockLengths, blocks, blockwise}
-use Rattle.bits.specs.Listing.{comesFrom, listedBlock, listed}
+use Rattle.bits.specs.Bits.{bit, little_endian, word, bit_of}
+use Rattle.bits.specs.Blocks.{cut, block_lengths, blocks, blockwise}
+use Rattle.bits.specs.Listing.{comes_from, listed_block, listed}
 use Rattle.marks.specs.Marks.{Smalls}
-use Rattle.small.specs.Sampling.{firstHalf, secondHalf, firstBit, secondBit, sampled}
-use Rattle.stages.specs.Making.{smallF, smallG}
-use Rattle.lists.proofs.TabLaws.{getD-tab, tab-cong, map-cond}
+use Rattle.small.specs.Sampling.{first_half, second_half, first_bit, second_bit, sampled}
+use Rattle.stages.specs.Making.{small_f, small_g}
+use Rattle.lists.proofs.TabLaws.{get_or_tab, tab_cong, map_cond}
 use Rattle.agreement.specs.Opened.{opened, InRange, Pair}
-use Rattle.agreement.specs.BenchPair.{benchSeed}
+use Rattle.agreement.specs.BenchPair.{bench_seed}
 use Rattle.agreement.proofs.Units.{zero_of, one_of}
-use Rattle.agreement.proofs.UnitPair.{unit-pair, unit-near}
+use Rattle.agreement.proofs.UnitPair.{unit_pair, unit_near}
 
 -- ---- the quarters of the seed block, and their listings
 
@@ -30,56 +30,56 @@ first : List ℕ
 first = tab 72 (λ i. cond (eqb i 0) 1 0)
 
 -- their bits: all 0; and the first 1
-listed-zeros : listed zeros ≡ tab 576 (λ _. 0)
-unfolding zeros listed blocks cut blockLengths blockwise listedBlock comesFrom bit_of word littleEndian bit tab
-listed-zeros = refl
+listed_zeros : listed zeros ≡ tab 576 (λ _. 0)
+unfolding zeros listed blocks cut block_lengths blockwise listed_block comes_from bit_of word little_endian bit tab
+listed_zeros = refl
 
-listed-first : listed first ≡ tab 576 (λ i. cond (eqb i 0) 1 0)
-unfolding first listed blocks cut blockLengths blockwise listedBlock comesFrom bit_of word littleEndian bit tab
-listed-first = refl
+listed_first : listed first ≡ tab 576 (λ i. cond (eqb i 0) 1 0)
+unfolding first listed blocks cut block_lengths blockwise listed_block comes_from bit_of word little_endian bit tab
+listed_first = refl
 
 -- the third quarter of the seed block is the one with the 1
-quarters : (firstHalf (firstHalf benchSeed) ≡ zeros) × (secondHalf (firstHalf benchSeed) ≡ zeros)
-    × (firstHalf (secondHalf benchSeed) ≡ first) × (secondHalf (secondHalf benchSeed) ≡ zeros)
-unfolding zeros first firstHalf secondHalf benchSeed tab
+quarters : (first_half (first_half bench_seed) ≡ zeros) × (second_half (first_half bench_seed) ≡ zeros)
+    × (first_half (second_half bench_seed) ≡ first) × (second_half (second_half bench_seed) ≡ zeros)
+unfolding zeros first first_half second_half bench_seed tab
 quarters = (refl, refl, refl, refl)
 
 -- each half gives 576 coefficients
-halves_long : (4 * length (firstHalf benchSeed) ≡ 576) × (4 * length (secondHalf benchSeed) ≡ 576)
-unfolding firstHalf secondHalf benchSeed tab
+halves_long : (4 * length (first_half bench_seed) ≡ 576) × (4 * length (second_half bench_seed) ≡ 576)
+unfolding first_half second_half bench_seed tab
 halves_long = (refl, refl)
 
 -- ---- the pair
 
 -- bits v of the first half, and none of the second, are the coefficients v
-sampled-by : (n : ℕ) (v : ℕ → ℕ) (block : List ℕ) → 4 * length block ≡ n → listed (firstHalf block) ≡ tab n v
-    → listed (secondHalf block) ≡ tab n (λ _. 0) → sampled block ≡ tab n (λ i. pos (v i))
-unfolding sampled firstBit secondBit
-sampled-by n v block long bits none =
-    ap (λ k. tab k (λ i. pos (firstBit block i) -ℤ pos (secondBit block i))) long
-    ∙ tab-cong n (λ i l. ap₂ (λ x y. pos x -ℤ pos y)
-    (ap (λ b. get_or b i 0) bits ∙ getD-tab n v i 0 l) (ap (λ b. get_or b i 0) none ∙ getD-tab n (λ _. 0) i 0 l)
+sampled_by : (n : ℕ) (v : ℕ → ℕ) (block : List ℕ) → 4 * length block ≡ n → listed (first_half block) ≡ tab n v
+    → listed (second_half block) ≡ tab n (λ _. 0) → sampled block ≡ tab n (λ i. pos (v i))
+unfolding sampled first_bit second_bit
+sampled_by n v block long bits none =
+    ap (λ k. tab k (λ i. pos (first_bit block i) -ℤ pos (second_bit block i))) long
+    ∙ tab_cong n (λ i l. ap₂ (λ x y. pos x -ℤ pos y)
+    (ap (λ b. get_or b i 0) bits ∙ get_or_tab n v i 0 l) (ap (λ b. get_or b i 0) none ∙ get_or_tab n (λ _. 0) i 0 l)
     ∙ +ℤ_idr (pos (v i)))
 
 -- f' = 0
-pub bench-f : smallF benchSeed ≡ zero_of 576
-unfolding smallF zero_of
-bench-f =
-    sampled-by 576 (λ _. 0) (firstHalf benchSeed) halves_long.0
-    (ap listed quarters.0 ∙ listed-zeros) (ap listed quarters.1 ∙ listed-zeros)
+pub bench_f : small_f bench_seed ≡ zero_of 576
+unfolding small_f zero_of
+bench_f =
+    sampled_by 576 (λ _. 0) (first_half bench_seed) halves_long.0
+    (ap listed quarters.0 ∙ listed_zeros) (ap listed quarters.1 ∙ listed_zeros)
 
 -- g' = 1
-pub bench-g : smallG benchSeed ≡ one_of 576
-unfolding smallG one_of
-bench-g =
-    sampled-by 576 (λ i. cond (eqb i 0) 1 0) (secondHalf benchSeed) halves_long.1
-    (ap listed quarters.2 ∙ listed-first) (ap listed quarters.3 ∙ listed-zeros)
-    ∙ tab-cong 576 (λ i _. map-cond pos (eqb i 0) 1 0)
+pub bench_g : small_g bench_seed ≡ one_of 576
+unfolding small_g one_of
+bench_g =
+    sampled_by 576 (λ i. cond (eqb i 0) 1 0) (second_half bench_seed) halves_long.1
+    (ap listed quarters.2 ∙ listed_first) (ap listed quarters.3 ∙ listed_zeros)
+    ∙ tab_cong 576 (λ i _. map_cond pos (eqb i 0) 1 0)
 
 -- make takes it
-pub bench-pair : Pair 288 49 (smallF benchSeed) (smallG benchSeed)
-bench-pair = rw (bench-f, bench-g) (unit-pair 288 49 (lit< tt))
+pub bench_pair : Pair 288 49 (small_f bench_seed) (small_g bench_seed)
+bench_pair = rw (bench_f, bench_g) (unit_pair 288 49 (lit< tt))
 
 -- and every small r and m may be sealed with it
-pub bench-near : (r m : List ℤ) → length r ≡ 576 → Smalls r → Smalls m → InRange (opened 288 (smallF benchSeed) (smallG benchSeed) r m)
-bench-near r m lr sr sm = rw (bench-f, bench-g) (unit-near 288 (lit< tt) r m lr sr sm)
+pub bench_near : (r m : List ℤ) → length r ≡ 576 → Smalls r → Smalls m → InRange (opened 288 (small_f bench_seed) (small_g bench_seed) r m)
+bench_near r m lr sr sm = rw (bench_f, bench_g) (unit_near 288 (lit< tt) r m lr sr sm)

@@ -11,207 +11,207 @@ use Rattle.lists.specs.Below.{Below}
 use Rattle.residue.specs.Residues.{Residues}
 use Rattle.algebra.specs.Roots.{IsRoot}
 use Rattle.algebra.specs.SlotBySlot.{inverses}
-use Rattle.marks.specs.Marks.{markOf, Smalls}
-use Rattle.small.specs.Sampling.{firstHalf, secondHalf}
+use Rattle.marks.specs.Marks.{mark_of, Smalls}
+use Rattle.small.specs.Sampling.{first_half, second_half}
 use Rattle.encoding.specs.Encoding.{encoded, decoded}
 use Rattle.packing.specs.Packing.{packed, groups}
-use Rattle.stages.specs.Making.{smallF, smallG, fImage, hImage, publicKey, privateKey}
-use Rattle.stages.specs.Sealing.{smallR, rImage, sealedImage, ciphertext}
-use Rattle.stages.specs.Opening.{openedM, openedR, openedMarks, openedImage, openedMessage}
-use Rattle.algebra.proofs.Lists.{plus-residues, inverses-residues}
-use Rattle.marks.proofs.MarkLaws.{markOf-lt, map-ofMark-markOf}
-use Rattle.small.proofs.SmallLaws.{length-sampled, smalls-sampled}
-use Rattle.encoding.proofs.EncodingLaws.{length-encoded, smalls-encoded, decoded-encoded}
-use Rattle.packing.proofs.PackingLaws.{length-packed, unpack-pack}
+use Rattle.stages.specs.Making.{small_f, small_g, f_image, h_image, public_key, private_key}
+use Rattle.stages.specs.Sealing.{small_r, r_image, sealed_image, ciphertext}
+use Rattle.stages.specs.Opening.{opened_m, opened_r, opened_marks, opened_image, opened_message}
+use Rattle.algebra.proofs.Lists.{plus_residues, inverses_residues}
+use Rattle.marks.proofs.MarkLaws.{mark_of_lt, map_of_mark_mark_of}
+use Rattle.small.proofs.SmallLaws.{length_sampled, smalls_sampled}
+use Rattle.encoding.proofs.EncodingLaws.{length_encoded, smalls_encoded, decoded_encoded}
+use Rattle.packing.proofs.PackingLaws.{length_packed, unpack_pack}
 use Rattle.agreement.specs.Opened.{opened, InRange, Pair}
-use Rattle.agreement.proofs.Slots.{fImage-residues, hImage-residues}
-use Rattle.agreement.proofs.Opens.{opens-r-of, opens-m, opens-once}
+use Rattle.agreement.proofs.Slots.{f_image_residues, h_image_residues}
+use Rattle.agreement.proofs.Opens.{opens_r_of, opens_m, opens_once}
 
 -- ---- packed residues
 
 module _ (h : ℕ) {v : List ℕ} (r : Residues (h + h) v) where
   -- n residues come back
   unpacked : groups (packed v) ≡ v
-  unpacked = (unpack-pack h (subst (λ n. Residues n v) (omega arith) r)).0
+  unpacked = (unpack_pack h (subst (λ n. Residues n v) (omega arith) r)).0
 
   -- and take 3n/2 bytes
-  packed-long : length (packed v) ≡ 3 * h
-  packed-long = omega (arith, length-packed v, r.long)
+  packed_long : length (packed v) ≡ 3 * h
+  packed_long = omega (arith, length_packed v, r.long)
 
 module _ (k : ℕ) (a b : List ℕ) (la : length a ≡ k) (lb : length b ≡ k) where
   -- two parts as long as each other are the halves
   middle : length (a ++ b) / 2 ≡ k
   middle = omega (arith, length-append a b)
 
-  first_part : firstHalf (a ++ b) ≡ a
-  unfolding firstHalf
+  first_part : first_half (a ++ b) ≡ a
+  unfolding first_half
   first_part = take_at a b _ (la ∙ sym middle)
 
-  second-part : secondHalf (a ++ b) ≡ b
-  unfolding secondHalf
-  second-part = drop_at a b _ (la ∙ sym middle)
+  second_part : second_half (a ++ b) ≡ b
+  unfolding second_half
+  second_part = drop_at a b _ (la ∙ sym middle)
 
 -- ---- the keys
 
 module _ (h w : ℕ) (seed : List ℕ) where
   -- F, H and K of a seed block
-  abbrev fSeed : List ℕ
-  fSeed = fImage h w (smallF seed)
+  abbrev f_seed : List ℕ
+  f_seed = f_image h w (small_f seed)
 
-  abbrev hSeed : List ℕ
-  hSeed = hImage h w (smallF seed) (smallG seed)
+  abbrev h_seed : List ℕ
+  h_seed = h_image h w (small_f seed) (small_g seed)
 
-  abbrev kSeed : List ℕ
-  kSeed = inverses (h + h) hSeed
+  abbrev k_seed : List ℕ
+  k_seed = inverses (h + h) h_seed
 
   -- the public key is 3n/2 bytes, and unpacks to H
-  pub length-publicKey : length (publicKey h w seed) ≡ 3 * h
-  unfolding publicKey
-  length-publicKey = packed-long h (hImage-residues h w _ _)
+  pub length_public_key : length (public_key h w seed) ≡ 3 * h
+  unfolding public_key
+  length_public_key = packed_long h (h_image_residues h w _ _)
 
-  pub groups-publicKey : groups (publicKey h w seed) ≡ hSeed
-  unfolding publicKey
-  groups-publicKey = unpacked h (hImage-residues h w _ _)
+  pub groups_public_key : groups (public_key h w seed) ≡ h_seed
+  unfolding public_key
+  groups_public_key = unpacked h (h_image_residues h w _ _)
 
   -- the halves of the private key are the packed F and K
-  private-first : firstHalf (privateKey h w seed) ≡ packed fSeed
-  unfolding privateKey
-  private-first = first_part (3 * h) (packed fSeed) (packed kSeed) (packed-long h (fImage-residues h w _)) (packed-long h (inverses-residues (h + h) _))
+  private_first : first_half (private_key h w seed) ≡ packed f_seed
+  unfolding private_key
+  private_first = first_part (3 * h) (packed f_seed) (packed k_seed) (packed_long h (f_image_residues h w _)) (packed_long h (inverses_residues (h + h) _))
 
-  private-second : secondHalf (privateKey h w seed) ≡ packed kSeed
-  unfolding privateKey
-  private-second = second-part (3 * h) (packed fSeed) (packed kSeed) (packed-long h (fImage-residues h w _)) (packed-long h (inverses-residues (h + h) _))
+  private_second : second_half (private_key h w seed) ≡ packed k_seed
+  unfolding private_key
+  private_second = second_part (3 * h) (packed f_seed) (packed k_seed) (packed_long h (f_image_residues h w _)) (packed_long h (inverses_residues (h + h) _))
 
   -- each of 3n/2 bytes
-  pub length-privateKey : length (privateKey h w seed) ≡ 3 * h + 3 * h
-  unfolding privateKey
-  length-privateKey =
-      length-append (packed fSeed) (packed kSeed)
-      ∙ ap₂ ◌+◌ (packed-long h (fImage-residues h w _)) (packed-long h (inverses-residues (h + h) _))
+  pub length_private_key : length (private_key h w seed) ≡ 3 * h + 3 * h
+  unfolding private_key
+  length_private_key =
+      length-append (packed f_seed) (packed k_seed)
+      ∙ ap₂ ◌+◌ (packed_long h (f_image_residues h w _)) (packed_long h (inverses_residues (h + h) _))
 
   -- and they unpack to F and K
-  pub groups-privateF : groups (firstHalf (privateKey h w seed)) ≡ fSeed
-  groups-privateF = ap groups private-first ∙ unpacked h (fImage-residues h w _)
+  pub groups_private_f : groups (first_half (private_key h w seed)) ≡ f_seed
+  groups_private_f = ap groups private_first ∙ unpacked h (f_image_residues h w _)
 
-  pub groups-privateK : groups (secondHalf (privateKey h w seed)) ≡ kSeed
-  groups-privateK = ap groups private-second ∙ unpacked h (inverses-residues (h + h) _)
+  pub groups_private_k : groups (second_half (private_key h w seed)) ≡ k_seed
+  groups_private_k = ap groups private_second ∙ unpacked h (inverses_residues (h + h) _)
 
   -- so no group of a key is refused
-  pub publicKey-residues : Residues (h + h) (groups (publicKey h w seed))
-  publicKey-residues = subst (Residues (h + h)) (sym groups-publicKey) (hImage-residues h w _ _)
+  pub public_key_residues : Residues (h + h) (groups (public_key h w seed))
+  public_key_residues = subst (Residues (h + h)) (sym groups_public_key) (h_image_residues h w _ _)
 
-  pub privateF-residues : Residues (h + h) (groups (firstHalf (privateKey h w seed)))
-  privateF-residues = subst (Residues (h + h)) (sym groups-privateF) (fImage-residues h w _)
+  pub private_f_residues : Residues (h + h) (groups (first_half (private_key h w seed)))
+  private_f_residues = subst (Residues (h + h)) (sym groups_private_f) (f_image_residues h w _)
 
-  pub privateK-residues : Residues (h + h) (groups (secondHalf (privateKey h w seed)))
-  privateK-residues = subst (Residues (h + h)) (sym groups-privateK) (inverses-residues (h + h) _)
+  pub private_k_residues : Residues (h + h) (groups (second_half (private_key h w seed)))
+  private_k_residues = subst (Residues (h + h)) (sym groups_private_k) (inverses_residues (h + h) _)
 
 -- ---- the ciphertext
 
 module _ (h w : ℕ) where
   -- the image of h*r + m is n residues
-  sealedImage-residues : (H : List ℕ) (r m : List ℤ) → Residues (h + h) (sealedImage h w H r m)
-  unfolding sealedImage
-  sealedImage-residues H r m = plus-residues (h + h) _ _
+  sealed_image_residues : (H : List ℕ) (r m : List ℤ) → Residues (h + h) (sealed_image h w H r m)
+  unfolding sealed_image
+  sealed_image_residues H r m = plus_residues (h + h) _ _
 
   module _ (public message hblock gblock : List ℕ) where
     -- a ciphertext is 3n/2 bytes, and unpacks to that image
-    pub length-ciphertext : length (ciphertext h w public message hblock gblock) ≡ 3 * h
+    pub length_ciphertext : length (ciphertext h w public message hblock gblock) ≡ 3 * h
     unfolding ciphertext
-    length-ciphertext = packed-long h (sealedImage-residues _ _ _)
+    length_ciphertext = packed_long h (sealed_image_residues _ _ _)
 
-    pub groups-ciphertext : groups (ciphertext h w public message hblock gblock) ≡ sealedImage h w (groups public) (smallR hblock) (encoded message gblock)
+    pub groups_ciphertext : groups (ciphertext h w public message hblock gblock) ≡ sealed_image h w (groups public) (small_r hblock) (encoded message gblock)
     unfolding ciphertext
-    groups-ciphertext = unpacked h (sealedImage-residues _ _ _)
+    groups_ciphertext = unpacked h (sealed_image_residues _ _ _)
 
     -- so no group of it is refused
-    pub ciphertext-residues : Residues (h + h) (groups (ciphertext h w public message hblock gblock))
-    ciphertext-residues = subst (Residues (h + h)) (sym groups-ciphertext) (sealedImage-residues _ _ _)
+    pub ciphertext_residues : Residues (h + h) (groups (ciphertext h w public message hblock gblock))
+    ciphertext_residues = subst (Residues (h + h)) (sym groups_ciphertext) (sealed_image_residues _ _ _)
 
   -- with a public key that make wrote: the image of h*r + m
-  sealed : (seed message hblock gblock : List ℕ) → groups (ciphertext h w (publicKey h w seed) message hblock gblock)
-      ≡ sealedImage h w (hSeed h w seed) (smallR hblock) (encoded message gblock)
+  sealed : (seed message hblock gblock : List ℕ) → groups (ciphertext h w (public_key h w seed) message hblock gblock)
+      ≡ sealed_image h w (h_seed h w seed) (small_r hblock) (encoded message gblock)
   sealed seed message hblock gblock =
-      groups-ciphertext (publicKey h w seed) message hblock gblock
-      ∙ ap (λ H. sealedImage h w H (smallR hblock) (encoded message gblock)) (groups-publicKey h w seed)
+      groups_ciphertext (public_key h w seed) message hblock gblock
+      ∙ ap (λ H. sealed_image h w H (small_r hblock) (encoded message gblock)) (groups_public_key h w seed)
 
 -- ---- marks and messages
 
 -- the marks of a small polynomial are below 3
-pub marks-below : (l : List ℤ) → Smalls l → Below 3 (map markOf l)
-unfolding markOf
-marks-below l s = record { low = λ i. subst (λ x. x < 3) (sym (get_or-map markOf l i (pos 0))) (markOf-lt _ (s.small i)) }
+pub marks_below : (l : List ℤ) → Smalls l → Below 3 (map mark_of l)
+unfolding mark_of
+marks_below l s = record { low = λ i. subst (λ x. x < 3) (sym (get_or-map mark_of l i (pos 0))) (mark_of_lt _ (s.small i)) }
 
 -- the marks of an encoded message give it back, with the same block
-pub opens-message : (message gblock : List ℕ) → length message % 4 ≡ 0 → Below 256 message
-    → openedMessage (map markOf (encoded message gblock)) gblock ≡ message
-unfolding openedMessage
-opens-message message gblock words bytes =
-    ap (λ c. decoded c gblock) (map-ofMark-markOf _ (smalls-encoded message gblock)) ∙ decoded-encoded message gblock words bytes
+pub opens_message : (message gblock : List ℕ) → length message % 4 ≡ 0 → Below 256 message
+    → opened_message (map mark_of (encoded message gblock)) gblock ≡ message
+unfolding opened_message
+opens_message message gblock words bytes =
+    ap (λ c. decoded c gblock) (map_of_mark_mark_of _ (smalls_encoded message gblock)) ∙ decoded_encoded message gblock words bytes
 
 -- ---- what is sampled and encoded
 
 -- r is small
-smallR-small : (hblock : List ℕ) → Smalls (smallR hblock)
-unfolding smallR
-smallR-small hblock = smalls-sampled _
+small_r_small : (hblock : List ℕ) → Smalls (small_r hblock)
+unfolding small_r
+small_r_small hblock = smalls_sampled _
 
 module _ (h e : ℕ) (size : h + h ≡ 8 * e) where
   -- n coefficients from each half of a seed block
-  smallF-long : (seed : List ℕ) → length seed ≡ 4 * e → length (smallF seed) ≡ h + h
-  unfolding smallF firstHalf
-  smallF-long seed ls = omega (arith, length-sampled (firstHalf seed), length-take-le (length seed / 2) seed (omega arith), ls, size)
+  small_f_long : (seed : List ℕ) → length seed ≡ 4 * e → length (small_f seed) ≡ h + h
+  unfolding small_f first_half
+  small_f_long seed ls = omega (arith, length_sampled (first_half seed), length-take-le (length seed / 2) seed (omega arith), ls, size)
 
-  smallG-long : (seed : List ℕ) → length seed ≡ 4 * e → length (smallG seed) ≡ h + h
-  unfolding smallG secondHalf
-  smallG-long seed ls = omega (arith, length-sampled (secondHalf seed), length-drop (length seed / 2) seed, ls, size)
+  small_g_long : (seed : List ℕ) → length seed ≡ 4 * e → length (small_g seed) ≡ h + h
+  unfolding small_g second_half
+  small_g_long seed ls = omega (arith, length_sampled (second_half seed), length-drop (length seed / 2) seed, ls, size)
 
   -- from an H block
-  smallR-long : (hblock : List ℕ) → length hblock ≡ 32 + 2 * e → length (smallR hblock) ≡ h + h
-  unfolding smallR
-  smallR-long hblock lh = omega (arith, length-sampled (drop 32 hblock), length-drop 32 hblock, lh, size)
+  small_r_long : (hblock : List ℕ) → length hblock ≡ 32 + 2 * e → length (small_r hblock) ≡ h + h
+  unfolding small_r
+  small_r_long hblock lh = omega (arith, length_sampled (drop 32 hblock), length-drop 32 hblock, lh, size)
 
   -- and from a message
-  encoded-long : (message gblock : List ℕ) → length message ≡ e → length (encoded message gblock) ≡ h + h
-  encoded-long message gblock lm = omega (arith, length-encoded message gblock, lm, size)
+  encoded_long : (message gblock : List ℕ) → length message ≡ e → length (encoded message gblock) ≡ h + h
+  encoded_long message gblock lm = omega (arith, length_encoded message gblock, lm, size)
 
 -- ---- opening
 
-module _ (h w : ℕ) (ρ : IsRoot h w) (e : ℕ) (size : h + h ≡ 8 * e) (seed : List ℕ) (ls : length seed ≡ 4 * e) (pair : Pair h w (smallF seed) (smallG seed)) where
+module _ (h w : ℕ) (ρ : IsRoot h w) (e : ℕ) (size : h + h ≡ 8 * e) (seed : List ℕ) (ls : length seed ≡ 4 * e) (pair : Pair h w (small_f seed) (small_g seed)) where
   module _ (message hblock gblock : List ℕ) (lm : length message ≡ e) (lh : length hblock ≡ 32 + 2 * e)
-      (near : InRange (opened h (smallF seed) (smallG seed) (smallR hblock) (encoded message gblock))) where
+      (near : InRange (opened h (small_f seed) (small_g seed) (small_r hblock) (encoded message gblock))) where
     -- what sealing writes
     abbrev cipher : List ℕ
-    cipher = ciphertext h w (publicKey h w seed) message hblock gblock
+    cipher = ciphertext h w (public_key h w seed) message hblock gblock
 
     -- m comes back
-    m-back : openedM h w (fSeed h w seed) (sealedImage h w (hSeed h w seed) (smallR hblock) (encoded message gblock)) ≡ encoded message gblock
-    m-back =
-        opens-m h w _ _ ρ (smallF-long h e size seed ls) (smallG-long h e size seed ls) pair _ _ (smallR-long h e size hblock lh)
-        (encoded-long h e size message gblock lm) (smalls-encoded message gblock) near
+    m_back : opened_m h w (f_seed h w seed) (sealed_image h w (h_seed h w seed) (small_r hblock) (encoded message gblock)) ≡ encoded message gblock
+    m_back =
+        opens_m h w _ _ ρ (small_f_long h e size seed ls) (small_g_long h e size seed ls) pair _ _ (small_r_long h e size hblock lh)
+        (encoded_long h e size message gblock lm) (smalls_encoded message gblock) near
 
     -- as its marks
-    pub opens-marks : openedMarks h w (privateKey h w seed) cipher ≡ map markOf (encoded message gblock)
-    unfolding openedMarks
-    opens-marks = ap (map markOf) (ap₂ (openedM h w) (groups-privateF h w seed) (sealed h w seed message hblock gblock) ∙ m-back)
+    pub opens_marks : opened_marks h w (private_key h w seed) cipher ≡ map mark_of (encoded message gblock)
+    unfolding opened_marks
+    opens_marks = ap (map mark_of) (ap₂ (opened_m h w) (groups_private_f h w seed) (sealed h w seed message hblock gblock) ∙ m_back)
 
     -- and the packed image of r comes back
-    pub opens-image : openedImage h w (privateKey h w seed) cipher ≡ packed (rImage h w hblock)
-    unfolding openedImage rImage
-    opens-image =
-        ap packed (ap₂ (λ F K. openedR h w F K (groups cipher)) (groups-privateF h w seed) (groups-privateK h w seed)
-        ∙ ap (openedR h w _ _) (sealed h w seed message hblock gblock) ∙ opens-r-of h w _ _ pair _ _ m-back)
+    pub opens_image : opened_image h w (private_key h w seed) cipher ≡ packed (r_image h w hblock)
+    unfolding opened_image r_image
+    opens_image =
+        ap packed (ap₂ (λ F K. opened_r h w F K (groups cipher)) (groups_private_f h w seed) (groups_private_k h w seed)
+        ∙ ap (opened_r h w _ _) (sealed h w seed message hblock gblock) ∙ opens_r_of h w _ _ pair _ _ m_back)
 
   -- two sealings in range with the same ciphertext had the same m and the same r
-  pub opens-bytes-once : (message hblock gblock message₂ hblock₂ gblock₂ : List ℕ) → length message ≡ e → length message₂ ≡ e
+  pub opens_bytes_once : (message hblock gblock message₂ hblock₂ gblock₂ : List ℕ) → length message ≡ e → length message₂ ≡ e
       → length hblock ≡ 32 + 2 * e → length hblock₂ ≡ 32 + 2 * e
-      → InRange (opened h (smallF seed) (smallG seed) (smallR hblock) (encoded message gblock))
-      → InRange (opened h (smallF seed) (smallG seed) (smallR hblock₂) (encoded message₂ gblock₂))
-      → ciphertext h w (publicKey h w seed) message hblock gblock ≡ ciphertext h w (publicKey h w seed) message₂ hblock₂ gblock₂
-      → (encoded message gblock ≡ encoded message₂ gblock₂) × (smallR hblock ≡ smallR hblock₂)
-  opens-bytes-once message hblock gblock message₂ hblock₂ gblock₂ lm lm₂ lh lh₂ near near₂ same =
-      opens-once h w _ _ ρ (smallF-long h e size seed ls) (smallG-long h e size seed ls) pair _ _ _ _
-      (smallR-long h e size hblock lh) (encoded-long h e size message gblock lm)
-      (smallR-long h e size hblock₂ lh₂) (encoded-long h e size message₂ gblock₂ lm₂)
-      (smallR-small hblock) (smalls-encoded message gblock) (smallR-small hblock₂) (smalls-encoded message₂ gblock₂) near near₂
+      → InRange (opened h (small_f seed) (small_g seed) (small_r hblock) (encoded message gblock))
+      → InRange (opened h (small_f seed) (small_g seed) (small_r hblock₂) (encoded message₂ gblock₂))
+      → ciphertext h w (public_key h w seed) message hblock gblock ≡ ciphertext h w (public_key h w seed) message₂ hblock₂ gblock₂
+      → (encoded message gblock ≡ encoded message₂ gblock₂) × (small_r hblock ≡ small_r hblock₂)
+  opens_bytes_once message hblock gblock message₂ hblock₂ gblock₂ lm lm₂ lh lh₂ near near₂ same =
+      opens_once h w _ _ ρ (small_f_long h e size seed ls) (small_g_long h e size seed ls) pair _ _ _ _
+      (small_r_long h e size hblock lh) (encoded_long h e size message gblock lm)
+      (small_r_long h e size hblock₂ lh₂) (encoded_long h e size message₂ gblock₂ lm₂)
+      (small_r_small hblock) (smalls_encoded message gblock) (small_r_small hblock₂) (smalls_encoded message₂ gblock₂) near near₂
       (sym (sealed h w seed message hblock gblock) ∙ ap groups same ∙ sealed h w seed message₂ hblock₂ gblock₂)

@@ -4,5 +4,5 @@ use Rattle.std.specs.Prelude.{cond, List, ℕ, eqb}
 use Rattle.lists.specs.Tab.{tab}
 
 -- "Make, set 576, block of zeros .. With only byte 144 equal to 1"
-unfoldable pub benchSeed : List ℕ
-benchSeed = tab 288 (λ i. cond (eqb i 144) 1 0)
+unfoldable pub bench_seed : List ℕ
+bench_seed = tab 288 (λ i. cond (eqb i 144) 1 0)

@@ -4,7 +4,7 @@ use Rattle.std.specs.Prelude.{List, ℕ, ◌+◌, ◌≤◌, ◌<◌, ℤ, pos, 
 use Rattle.lists.specs.Tab.{tab}
 use Rattle.algebra.specs.Numbers.{wholes}
 use Rattle.algebra.specs.Product.{coefficient, product}
-use Rattle.stages.specs.Making.{fImage, gImage}
+use Rattle.stages.specs.Making.{f_image, g_image}
 
 -- 3(g'r + mf') + m, over n = 2h
 unfoldable pub opened : ℕ → List ℤ → List ℤ → List ℤ → List ℤ → List ℤ
@@ -17,5 +17,5 @@ pub record InRange (p : List ℤ) : Type 0 where
 
 -- a pair that make takes: no slot of f and none of g is zero
 pub record Pair (h w : ℕ) (f' g' : List ℤ) : Type 0 where
-  pub f-slots : (k : ℕ) → k < h + h → 0 < get_or (fImage h w f') k 0
-  pub g-slots : (k : ℕ) → k < h + h → 0 < get_or (gImage h w g') k 0
+  pub f_slots : (k : ℕ) → k < h + h → 0 < get_or (f_image h w f') k 0
+  pub g_slots : (k : ℕ) → k < h + h → 0 < get_or (g_image h w g') k 0

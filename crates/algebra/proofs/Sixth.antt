@@ -2,7 +2,7 @@
 -- Assumes nothing.
 use mathlib.Core.Path.{◌≡◌, sym, ap, ap₂, ◌∙◌}
 use Prim.Native.Nat.{ℕ, ◌+◌, ◌*◌}
-use Rattle.algebra.proofs.Ring.{Ring, pow, add_assoc, add_comm, add_left_comm, add_right_comm, add-nil, nil-add, mul_assoc, mul_comm, mul-one, one-mul, mul-add, add-mul, one-neg, mul-mul-comm, minus, add-cancel, neg-neg, pow-suc, pow-one, pow-add, pow-mul, one-pow}
+use Rattle.algebra.proofs.Ring.{Ring, pow, add_assoc, add_comm, add_left_comm, add_right_comm, add_nil, nil_add, mul_assoc, mul_comm, mul_one, one_mul, mul_add, add_mul, one_neg, mul_mul_comm, minus, add_cancel, neg_neg, pow_suc, pow_one, pow_add, pow_mul, one_pow}
 
 module _ (R : Ring) where
   open R use {one as 𝟙, neg as ν}
@@ -14,52 +14,52 @@ module _ (R : Ring) where
   abbrev pub Sixth : C → Type 0
   Sixth g = g ⊗ g ≡ g ⊕ ν
 
-  pow-two : (g : C) → pow R g 2 ≡ g ⊗ g
-  pow-two g = pow-add R g 1 1 ∙ rw (pow-one R g)
+  pow_two : (g : C) → pow R g 2 ≡ g ⊗ g
+  pow_two g = pow_add R g 1 1 ∙ rw (pow_one R g)
 
   module _ (g : C) (s : Sixth g) where
     -- 1 + g^2 = g
-    pub sixth-add : 𝟙 ⊕ g ⊗ g ≡ g
-    sixth-add = rw (s, add_left_comm, one-neg, add-nil)
+    pub sixth_add : 𝟙 ⊕ g ⊗ g ≡ g
+    sixth_add = rw (s, add_left_comm, one_neg, add_nil)
 
     -- g^3 = -1
-    pub sixth-three : pow R g 3 ≡ ν
-    sixth-three = pow-suc R g 2 ∙ rw (pow-two, s, add-mul, s, add_right_comm R g ν (ν ⊗ g), minus, nil-add)
+    pub sixth_three : pow R g 3 ≡ ν
+    sixth_three = pow_suc R g 2 ∙ rw (pow_two, s, add_mul, s, add_right_comm R g ν (ν ⊗ g), minus, nil_add)
 
     -- g^6 = 1
-    pub sixth-six : pow R g 6 ≡ 𝟙
-    sixth-six = rw (pow-add R g 3 3, sixth-three, neg-neg)
+    pub sixth_six : pow R g 6 ≡ 𝟙
+    sixth_six = rw (pow_add R g 3 3, sixth_three, neg_neg)
 
     -- g + g^5 = 1
-    pub sixth-five : g ⊕ pow R g 5 ≡ 𝟙
-    sixth-five = rw (pow-add R g 3 2, sixth-three, pow-two, s, mul-add, neg-neg, ← add_assoc R g (ν ⊗ g) 𝟙, minus, nil-add)
+    pub sixth_five : g ⊕ pow R g 5 ≡ 𝟙
+    sixth_five = rw (pow_add R g 3 2, sixth_three, pow_two, s, mul_add, neg_neg, ← add_assoc R g (ν ⊗ g) 𝟙, minus, nil_add)
 
     -- g^(6t + 1) = g
-    pub sixth-one-more : (t : ℕ) → pow R g (6 * t + 1) ≡ g
-    sixth-one-more t = rw (pow-add, pow-mul, sixth-six, one-pow, pow-one, one-mul)
+    pub sixth_one_more : (t : ℕ) → pow R g (6 * t + 1) ≡ g
+    sixth_one_more t = rw (pow_add, pow_mul, sixth_six, one_pow, pow_one, one_mul)
 
     -- g^(6t + 5) = g^5
-    pub sixth-five-more : (t : ℕ) → pow R g (6 * t + 5) ≡ pow R g 5
-    sixth-five-more t = rw (pow-add, pow-mul, sixth-six, one-pow, one-mul)
+    pub sixth_five_more : (t : ℕ) → pow R g (6 * t + 5) ≡ pow R g 5
+    sixth_five_more t = rw (pow_add, pow_mul, sixth_six, one_pow, one_mul)
 
     module _ (k : C) (e : g ⊗ k ≡ 𝟙) where
       -- g^5 = 1/g
-      pub sixth-fifth : pow R g 5 ≡ k
-      sixth-fifth =
-          sym (mul-one R (pow R g 5)) ∙ ap (λ x. pow R g 5 ⊗ x) (sym e) ∙ sym (mul_assoc R (pow R g 5) g k)
-          ∙ ap (λ x. x ⊗ k) (sym (pow-suc R g 5) ∙ sixth-six) ∙ one-mul R k
+      pub sixth_fifth : pow R g 5 ≡ k
+      sixth_fifth =
+          sym (mul_one R (pow R g 5)) ∙ ap (λ x. pow R g 5 ⊗ x) (sym e) ∙ sym (mul_assoc R (pow R g 5) g k)
+          ∙ ap (λ x. x ⊗ k) (sym (pow_suc R g 5) ∙ sixth_six) ∙ one_mul R k
 
       -- 1/g is a sixth root too
-      pub sixth-inverse : Sixth k
-      sixth-inverse = add-cancel R (k ⊗ k) (k ⊕ ν) 𝟙 (left ∙ sym right)
+      pub sixth_inverse : Sixth k
+      sixth_inverse = add_cancel R (k ⊗ k) (k ⊕ ν) 𝟙 (left ∙ sym right)
         where
           right : k ⊕ ν ⊕ 𝟙 ≡ k
-          right = rw (add_assoc, add_comm R ν 𝟙, one-neg, add-nil)
+          right = rw (add_assoc, add_comm R ν 𝟙, one_neg, add_nil)
 
           one' : k ⊗ k ⊗ (g ⊗ g) ≡ 𝟙
-          one' = mul-mul-comm R k k g g ∙ rw (mul_comm R k g, e, mul-one)
+          one' = mul_mul_comm R k k g g ∙ rw (mul_comm R k g, e, mul_one)
 
           left : k ⊗ k ⊕ 𝟙 ≡ k
           left =
-              ap₂ ◌⊕◌ (sym (mul-one R (k ⊗ k))) (sym one') ∙ sym (mul-add R (k ⊗ k) 𝟙 (g ⊗ g))
-              ∙ rw (sixth-add, mul_assoc, mul_comm R k g, e, mul-one)
+              ap₂ ◌⊕◌ (sym (mul_one R (k ⊗ k))) (sym one') ∙ sym (mul_add R (k ⊗ k) 𝟙 (g ⊗ g))
+              ∙ rw (sixth_add, mul_assoc, mul_comm R k g, e, mul_one)

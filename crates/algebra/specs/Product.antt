@@ -13,15 +13,15 @@ unfoldable pub schoolbook : (N : Numbers) → (ℕ → N.C) → (ℕ → N.C) �
 schoolbook N a b m = sum N (suc m) (λ i. N.mul (a i) (b (m - i)))
 
 -- folded, at x^i below x^h: c_i - c_(n + i) - c_(3h + i), by x^(n + i) = x^(h + i) - x^i and x^(3h + i) = -x^i
-unfoldable pub foldLow : (N : Numbers) → ℕ → (ℕ → N.C) → ℕ → N.C
-foldLow N h c i = N.sub (c i) (N.add (c (h + h + i)) (c (h + h + (h + i))))
+unfoldable pub fold_low : (N : Numbers) → ℕ → (ℕ → N.C) → ℕ → N.C
+fold_low N h c i = N.sub (c i) (N.add (c (h + h + i)) (c (h + h + (h + i))))
 
 -- folded, at x^(h + i): c_(h + i) + c_(n + i)
-unfoldable pub foldHigh : (N : Numbers) → ℕ → (ℕ → N.C) → ℕ → N.C
-foldHigh N h c i = N.add (c (h + i)) (c (h + h + i))
+unfoldable pub fold_high : (N : Numbers) → ℕ → (ℕ → N.C) → ℕ → N.C
+fold_high N h c i = N.add (c (h + i)) (c (h + h + i))
 
 unfoldable pub fold : (N : Numbers) → ℕ → (ℕ → N.C) → ℕ → N.C
-fold N h c i = cond (ltb i h) (foldLow N h c i) (foldHigh N h c (i - h))
+fold N h c i = cond (ltb i h) (fold_low N h c i) (fold_high N h c (i - h))
 
 unfoldable pub product : (N : Numbers) → ℕ → List N.C → List N.C → List N.C
 product N h a b = tab (h + h) (fold N h (schoolbook N (coefficient N a) (coefficient N b)))

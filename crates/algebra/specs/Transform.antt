@@ -18,8 +18,8 @@ unfoldable pub image : ℕ → ℕ → List ℕ → List ℕ
 image h w a = tab (h + h) (λ k. value (h + h) a (powq w (exponent k)))
 
 -- S_j: the sum over the slots of A_k w^(-e j)
-unfoldable pub slotSum : ℕ → ℕ → List ℕ → ℕ → ℕ
-slotSum h w A j = sum residues (h + h) (λ k. mulq (get_or A k 0) (powq (invq w) (exponent k * j)))
+unfoldable pub slot_sum : ℕ → ℕ → List ℕ → ℕ → ℕ
+slot_sum h w A j = sum residues (h + h) (λ k. mulq (get_or A k 0) (powq (invq w) (exponent k * j)))
 
 -- (j + h) mod n
 unfoldable pub partner : ℕ → ℕ → ℕ
@@ -28,4 +28,4 @@ partner h j = cond (ltb j h) (h + j) (j - h)
 -- "the one element with that image": coefficient j is (2 S_j - S_(j + h)) / 3h
 unfoldable pub reverse : ℕ → ℕ → List ℕ → List ℕ
 reverse h w A =
-    tab (h + h) (λ j. mulq (invq (3 * h)) (subq (addq (slotSum h w A j) (slotSum h w A j)) (slotSum h w A (partner h j))))
+    tab (h + h) (λ j. mulq (invq (3 * h)) (subq (addq (slot_sum h w A j) (slot_sum h w A j)) (slot_sum h w A (partner h j))))

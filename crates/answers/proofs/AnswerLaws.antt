@@ -10,8 +10,8 @@ use Rattle.answers.specs.Answers.{number_of, place_of}
 use Rattle.answers.specs.Replies.{Reply, Outcome}
 
 -- the case with this number and place: the numbers differ from one another
-answerAt : ℕ → ℕ → Answer
-answerAt n p =
+answer_at : ℕ → ℕ → Answer
+answer_at n p =
     cond (eqb n (number_of Done)) Done
     (cond (eqb n (number_of UnknownSet)) UnknownSet
     (cond (eqb n (number_of WrongLength)) WrongLength
@@ -21,20 +21,20 @@ answerAt n p =
     (cond (eqb n (number_of Differs)) Differs
     (Malformed p)))))))
 
-answerAt-back : (r : Answer) → answerAt (number_of r) (place_of r) ≡ r
-unfolding answerAt
-answerAt-back Done = refl
-answerAt-back UnknownSet = refl
-answerAt-back WrongLength = refl
-answerAt-back (TooLarge p) = refl
-answerAt-back (ZeroSlot p) = refl
-answerAt-back (BadMark p) = refl
-answerAt-back Differs = refl
-answerAt-back (Malformed p) = refl
+answer_at_back : (r : Answer) → answer_at (number_of r) (place_of r) ≡ r
+unfolding answer_at
+answer_at_back Done = refl
+answer_at_back UnknownSet = refl
+answer_at_back WrongLength = refl
+answer_at_back (TooLarge p) = refl
+answer_at_back (ZeroSlot p) = refl
+answer_at_back (BadMark p) = refl
+answer_at_back Differs = refl
+answer_at_back (Malformed p) = refl
 
 -- one case at most has the number and the place of a reply
 pub one_answer : {R : Reply} {r s : Answer} {Holds Holds' : Reply → Type 0} → Outcome R r Holds → Outcome R s Holds' → r ≡ s
-one_answer {R} {r} {s} p q = sym (answerAt-back r) ∙ ap₂ answerAt (p.number ∙ sym q.number) (p.place ∙ sym q.place) ∙ answerAt-back s
+one_answer {R} {r} {s} p q = sym (answer_at_back r) ∙ ap₂ answer_at (p.number ∙ sym q.number) (p.place ∙ sym q.place) ∙ answer_at_back s
 
 -- document 01 has eight numbers
 pub number_small : (r : Answer) → number_of r < 8

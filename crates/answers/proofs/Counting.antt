@@ -6,9 +6,9 @@ use mathlib.Core.Path.{◌≡◌, sym, ◌∙◌}
 use Prim.Native.Nat.{ℕ, ◌+◌}
 use lib.Dec.{ltb}
 use lib.ListN.{length}
-use Rattle.lists.specs.First.{firstWhere, firstThrough}
-use Rattle.lists.proofs.FirstLaws.{through-cond}
+use Rattle.lists.specs.First.{first_where, first_through}
+use Rattle.lists.proofs.FirstLaws.{through_cond}
 
-pub counted : (bad : ℕ → Bool) (l : List ℕ) (ls : List (List ℕ)) {n first rest at : ℕ} → length l ≡ n → first ≡ firstWhere bad l → rest ≡ firstThrough bad ls
-    → at ≡ cond (ltb first n) first (n + rest) → at ≡ firstThrough bad (l ∷ ls)
-counted bad l ls en ef er e = e ∙ rw (← en, ef, er) (sym (through-cond bad l ls))
+pub counted : (bad : ℕ → Bool) (l : List ℕ) (ls : List (List ℕ)) {n first rest at : ℕ} → length l ≡ n → first ≡ first_where bad l → rest ≡ first_through bad ls
+    → at ≡ cond (ltb first n) first (n + rest) → at ≡ first_through bad (l ∷ ls)
+counted bad l ls en ef er e = e ∙ rw (← en, ef, er) (sym (through_cond bad l ls))

@@ -7,42 +7,42 @@ use Prim.Native.Nat.{ℕ, ◌≤◌, ◌<◌}
 use lib.Dec.{ltb}
 use lib.ListN.{length}
 use borrow.Author.Tests.{lt-ltb, le-ltb}
-use Rattle.lists.specs.First.{firstThrough}
-use Rattle.residue.specs.Large.{tooLarge}
+use Rattle.lists.specs.First.{first_through}
+use Rattle.residue.specs.Large.{too_large}
 use Rattle.answers.specs.declared.Answer.{Answer}
 use Rattle.answers.specs.declared.Answer.TheVariants.{Done, UnknownSet, WrongLength, TooLarge}
 use Rattle.answers.specs.declared.Parameters.{Parameters}
 use Rattle.answers.specs.declared.SetChoice.TheVariants.{Known, Unknown}
 use Rattle.answers.specs.Answers.{number_of, place_of}
 use Rattle.answers.specs.Replies.{Reply, reply, Outcome}
-use Rattle.answers.specs.Sets.{setOf, forSet}
-use Rattle.answers.specs.Tests.{inOrder, atFirst, in_range}
+use Rattle.answers.specs.Sets.{set_of, for_set}
+use Rattle.answers.specs.Tests.{in_order, at_first, in_range}
 
 -- what is so of the set that is known
-pub for-known : {A : Type 0} (set : ℕ) (s : Parameters) (other : A) (f : Parameters → A) → setOf set ≡ Known s → forSet (setOf set) other f ≡ f s
-unfolding forSet
-for-known set s other f e = ap (λ c. forSet c other f) e
+pub for_known : {A : Type 0} (set : ℕ) (s : Parameters) (other : A) (f : Parameters → A) → set_of set ≡ Known s → for_set (set_of set) other f ≡ f s
+unfolding for_set
+for_known set s other f e = ap (λ c. for_set c other f) e
 
 -- ---- what the definition answers
 
-module _ (set : ℕ) (fits : Parameters → Bool) (rest : Parameters → Reply) (s : Parameters) (e : setOf set ≡ Known s) where
-  tests : inOrder set fits rest ≡ cond (fits s) (rest s) (reply 2 0)
-  unfolding inOrder
-  tests = for-known set s (reply 1 0) (λ p. cond (fits p) (rest p) (reply 2 0)) e
+module _ (set : ℕ) (fits : Parameters → Bool) (rest : Parameters → Reply) (s : Parameters) (e : set_of set ≡ Known s) where
+  tests : in_order set fits rest ≡ cond (fits s) (rest s) (reply 2 0)
+  unfolding in_order
+  tests = for_known set s (reply 1 0) (λ p. cond (fits p) (rest p) (reply 2 0)) e
 
   -- where the lengths are right, what the call itself finds
-  pub in_order : fits s ≡ true → inOrder set fits rest ≡ rest s
-  in_order f = tests ∙ ap (λ b. cond b (rest s) (reply 2 0)) f
+  pub in_order_lem : fits s ≡ true → in_order set fits rest ≡ rest s
+  in_order_lem f = tests ∙ ap (λ b. cond b (rest s) (reply 2 0)) f
 
 -- where a test of numbers holds nowhere, the rest
-pub none_found : (number : ℕ) (bad : ℕ → Bool) (inputs : List (List ℕ)) (rest : Reply) → length (flatten inputs) ≤ firstThrough bad inputs
-    → atFirst number bad inputs rest ≡ rest
-unfolding atFirst
-none_found number bad inputs rest h = simp (le-ltb (firstThrough bad inputs) (length (flatten inputs)) h)
+pub none_found : (number : ℕ) (bad : ℕ → Bool) (inputs : List (List ℕ)) (rest : Reply) → length (flatten inputs) ≤ first_through bad inputs
+    → at_first number bad inputs rest ≡ rest
+unfolding at_first
+none_found number bad inputs rest h = simp (le-ltb (first_through bad inputs) (length (flatten inputs)) h)
 
-pub clear : (inputs : List (List ℕ)) (rest : Reply) → length (flatten inputs) ≤ firstThrough tooLarge inputs → in_range inputs rest ≡ rest
+pub clear : (inputs : List (List ℕ)) (rest : Reply) → length (flatten inputs) ≤ first_through too_large inputs → in_range inputs rest ≡ rest
 unfolding in_range
-clear = none_found 3 tooLarge
+clear = none_found 3 too_large
 
 -- ---- so what is owed at each exit
 
@@ -53,31 +53,31 @@ module _ (Holds : Reply → Type 0) where
 
   module _ (set : ℕ) (fits : Parameters → Bool) (rest : Parameters → Reply) where
     abbrev Owed : Answer → Type 0
-    Owed r = Outcome (inOrder set fits rest) r Holds
+    Owed r = Outcome (in_order set fits rest) r Holds
 
     -- 1 where the set is unknown
-    pub unknown-set : setOf set ≡ Unknown → Holds (reply 1 0) → Owed UnknownSet
-    unfolding inOrder forSet
-    unknown-set e h =
-        subst (λ R. Outcome R UnknownSet Holds) (sym (ap (λ c. forSet c (reply 1 0) (λ s. cond (fits s) (rest s) (reply 2 0))) e))
+    pub unknown_set_lem : set_of set ≡ Unknown → Holds (reply 1 0) → Owed UnknownSet
+    unfolding in_order for_set
+    unknown_set_lem e h =
+        subst (λ R. Outcome R UnknownSet Holds) (sym (ap (λ c. for_set c (reply 1 0) (λ s. cond (fits s) (rest s) (reply 2 0))) e))
         (record { number = refl; place = refl; content = h })
 
-    module _ (s : Parameters) (e : setOf set ≡ Known s) where
+    module _ (s : Parameters) (e : set_of set ≡ Known s) where
       -- 2 where a length is wrong
-      pub wrong-length : fits s ≡ false → Holds (reply 2 0) → Owed WrongLength
-      wrong-length f h =
+      pub wrong_length_lem : fits s ≡ false → Holds (reply 2 0) → Owed WrongLength
+      wrong_length_lem f h =
           subst (λ R. Outcome R WrongLength Holds) (sym (tests set fits rest s e ∙ ap (λ b. cond b (rest s) (reply 2 0)) f))
           (record { number = refl; place = refl; content = h })
 
       -- otherwise what the call itself finds
-      pub right-lengths : fits s ≡ true → (r : Answer) → Outcome (rest s) r Holds → Owed r
-      right-lengths f r = subst (λ R. Outcome R r Holds) (sym (in_order set fits rest s e f))
+      pub right_lengths : fits s ≡ true → (r : Answer) → Outcome (rest s) r Holds → Owed r
+      right_lengths f r = subst (λ R. Outcome R r Holds) (sym (in_order_lem set fits rest s e f))
 
   module _ (number : ℕ) (bad : ℕ → Bool) (inputs : List (List ℕ)) (rest : Reply) where
     -- 3, 4 or 5 at the first place where the test holds
-    pub found : (r : Answer) (at : ℕ) → number_of r ≡ number → place_of r ≡ at → at ≡ firstThrough bad inputs → at < length (flatten inputs)
-        → Holds (reply number at) → Outcome (atFirst number bad inputs rest) r Holds
-    unfolding atFirst
+    pub found : (r : Answer) (at : ℕ) → number_of r ≡ number → place_of r ≡ at → at ≡ first_through bad inputs → at < length (flatten inputs)
+        → Holds (reply number at) → Outcome (at_first number bad inputs rest) r Holds
+    unfolding at_first
     found r at en ep e h x =
         subst (λ R. Outcome R r Holds)
         (sym (ap (λ k. cond (ltb k (length (flatten inputs))) (reply number k) rest) (sym e)
@@ -85,17 +85,17 @@ module _ (Holds : Reply → Type 0) where
         (record { number = en; place = ep; content = x })
 
     -- otherwise the rest
-    pub not_found : length (flatten inputs) ≤ firstThrough bad inputs → (r : Answer) → Outcome rest r Holds → Outcome (atFirst number bad inputs rest) r Holds
+    pub not_found : length (flatten inputs) ≤ first_through bad inputs → (r : Answer) → Outcome rest r Holds → Outcome (at_first number bad inputs rest) r Holds
     not_found h r = subst (λ R. Outcome R r Holds) (sym (none_found number bad inputs rest h))
 
   module _ (inputs : List (List ℕ)) (rest : Reply) where
     -- 3 at the first number above 3456
-    pub too_large : (at : ℕ) → at ≡ firstThrough tooLarge inputs → at < length (flatten inputs) → Holds (reply 3 at)
+    pub too_large_lem : (at : ℕ) → at ≡ first_through too_large inputs → at < length (flatten inputs) → Holds (reply 3 at)
         → Outcome (in_range inputs rest) (TooLarge at) Holds
     unfolding in_range
-    too_large at = found 3 tooLarge inputs rest (TooLarge at) at refl refl
+    too_large_lem at = found 3 too_large inputs rest (TooLarge at) at refl refl
 
     -- otherwise the rest
-    pub in-range : length (flatten inputs) ≤ firstThrough tooLarge inputs → (r : Answer) → Outcome rest r Holds → Outcome (in_range inputs rest) r Holds
+    pub in_range_lem : length (flatten inputs) ≤ first_through too_large inputs → (r : Answer) → Outcome rest r Holds → Outcome (in_range inputs rest) r Holds
     unfolding in_range
-    in-range = not_found 3 tooLarge inputs rest
+    in_range_lem = not_found 3 too_large inputs rest

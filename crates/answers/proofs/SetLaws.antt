@@ -9,7 +9,7 @@ use borrow.Author.Tests.{eqb-true}
 use Rattle.residue.specs.Field.{generator, powq}
 use Rattle.answers.specs.declared.Parameters.{Parameters}
 use Rattle.answers.specs.declared.SetChoice.TheVariants.{Known, Unknown}
-use Rattle.answers.specs.Sets.{parametersOf, setOf}
+use Rattle.answers.specs.Sets.{parameters_of, set_of}
 
 pub record IsSet (set : ℕ) (s : Parameters) : Type 0 where
   pub size : s.n ≡ set
@@ -29,9 +29,9 @@ pub record IsSet (set : ℕ) (s : Parameters) : Type 0 where
 
 -- ---- the two sets, by computed tests
 
-is-576 : IsSet 576 (parametersOf 576 49 2)
-unfolding parametersOf powq
-is-576 =
+is_576 : IsSet 576 (parameters_of 576 49 2)
+unfolding parameters_of powq
+is_576 =
     record {
       size = refl;
       whole = refl;
@@ -49,9 +49,9 @@ is-576 =
       key = refl;
     }
 
-is-1152 : IsSet 1152 (parametersOf 1152 7 1)
-unfolding parametersOf powq
-is-1152 =
+is_1152 : IsSet 1152 (parameters_of 1152 7 1)
+unfolding parameters_of powq
+is_1152 =
     record {
       size = refl;
       whole = refl;
@@ -71,16 +71,16 @@ is-1152 =
 
 -- ---- so every set that is known is one
 
-pub known-set : (set : ℕ) (s : Parameters) → setOf set ≡ Known s → IsSet set s
-unfolding setOf
-known-set set s = by (eqb set 576) (eqb set 1152) refl refl
+pub known_set : (set : ℕ) (s : Parameters) → set_of set ≡ Known s → IsSet set s
+unfolding set_of
+known_set set s = by (eqb set 576) (eqb set 1152) refl refl
   where
     by : (a b : Bool) → eqb set 576 ≡ a → eqb set 1152 ≡ b
-        → cond a (Known (parametersOf 576 49 2)) (cond b (Known (parametersOf 1152 7 1)) Unknown) ≡ Known s → IsSet set s
+        → cond a (Known (parameters_of 576 49 2)) (cond b (Known (parameters_of 1152 7 1)) Unknown) ≡ Known s → IsSet set s
     by true b ea eb e =
-        let p : parametersOf 576 49 2 ≡ s = cc in
-        rw (← p, eqb-true set 576 ea) is-576
+        let p : parameters_of 576 49 2 ≡ s = cc in
+        rw (← p, eqb-true set 576 ea) is_576
     by false true ea eb e =
-        let p : parametersOf 1152 7 1 ≡ s = cc in
-        rw (← p, eqb-true set 1152 eb) is-1152
+        let p : parameters_of 1152 7 1 ≡ s = cc in
+        rw (← p, eqb-true set 1152 eb) is_1152
     by false false ea eb e = let z : ◌≡◌ {A = ℕ} 0 1 = cc in absurd (omega arith)

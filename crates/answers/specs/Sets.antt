@@ -6,8 +6,8 @@ use Rattle.answers.specs.declared.SetChoice.{SetChoice}
 use Rattle.answers.specs.declared.SetChoice.TheVariants.{Known, Unknown}
 
 -- every length of the table of calls, of the set n whose root is w = 7^step
-unfoldable pub parametersOf : ℕ → ℕ → ℕ → Parameters
-parametersOf n w step =
+unfoldable pub parameters_of : ℕ → ℕ → ℕ → Parameters
+parameters_of n w step =
     record {
       n = n;
       half = n / 2;
@@ -24,10 +24,10 @@ parametersOf n w step =
     }
 
 -- "| 576 | 49 | 1728 | 576 |", "| 1152 | 7 | 3456 | 1152 |"
-unfoldable pub setOf : ℕ → SetChoice
-setOf set = cond (eqb set 576) (Known (parametersOf 576 49 2)) (cond (eqb set 1152) (Known (parametersOf 1152 7 1)) Unknown)
+unfoldable pub set_of : ℕ → SetChoice
+set_of set = cond (eqb set 576) (Known (parameters_of 576 49 2)) (cond (eqb set 1152) (Known (parameters_of 1152 7 1)) Unknown)
 
 -- what is so of a known set, or what stands in for it
-unfoldable pub forSet : {A : Type 0} → SetChoice → A → (Parameters → A) → A
-forSet Unknown other f = other
-forSet (Known s) other f = f s
+unfoldable pub for_set : {A : Type 0} → SetChoice → A → (Parameters → A) → A
+for_set Unknown other f = other
+for_set (Known s) other f = f s

@@ -1,7 +1,7 @@
 // What a call can answer, and what a set number decides.
 ghost use Rattle.std.specs.Prelude.{◌≡◌, cond, ◌+◌, ◌<◌, ltb};
 ghost use Rattle.answers.specs.Answers.{number_of, place_of};
-ghost use Rattle.answers.specs.Sets.{setOf};
+ghost use Rattle.answers.specs.Sets.{set_of};
 
 // A case holds what document 01 gives it: nothing, or the place.
 #[derive(Drop)]
@@ -71,7 +71,7 @@ pub enum SetChoice {
 
 // Any number can come, and is compared at its full width.
 pub fn set_of(set: usize) -> SetChoice
-    ensures { result ≡ setOf set }
+    ensures { result ≡ set_of set }
 {
     match set {
         576 => SetChoice::Known(Parameters {

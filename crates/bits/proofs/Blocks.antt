@@ -7,19 +7,19 @@ use native.Mathlib.Nat.{div-eq_of_lt, mod-eq_of_lt, div-eq-sub-div, mod-eq-sub-m
 use native.Mathlib.Numerals.{add-one}
 use native.Mathlib.Omega.{arith}
 use lib.ListN.{replicate}
-use Rattle.bits.specs.Blocks.{cut, blockLengths, blocks}
+use Rattle.bits.specs.Blocks.{cut, block_lengths, blocks}
 
 -- ---- the first block
 
 -- one of the first length, where the bits hold one
-cut-here : (B : ℕ) (Bs : List ℕ) (n : ℕ) → 0 < B → B ≤ n → cut (B ∷ Bs) n ≡ B ∷ cut (B ∷ Bs) (n - B)
+cut_here : (B : ℕ) (Bs : List ℕ) (n : ℕ) → 0 < B → B ≤ n → cut (B ∷ Bs) n ≡ B ∷ cut (B ∷ Bs) (n - B)
 unfolding cut
-cut-here B Bs n s h = rw (div-eq-sub-div s h ∙ add-one _, mod-eq-sub-mod h)
+cut_here B Bs n s h = rw (div-eq-sub-div s h ∙ add-one _, mod-eq-sub-mod h)
 
 -- and none where they don't
-cut-past : (B : ℕ) (Bs : List ℕ) (n : ℕ) → n < B → cut (B ∷ Bs) n ≡ cut Bs n
+cut_past : (B : ℕ) (Bs : List ℕ) (n : ℕ) → n < B → cut (B ∷ Bs) n ≡ cut Bs n
 unfolding cut
-cut-past B Bs n h = rw (div-eq_of_lt h, mod-eq_of_lt h)
+cut_past B Bs n h = rw (div-eq_of_lt h, mod-eq_of_lt h)
 
 -- n bits hold no block of these lengths
 unfoldable pub Short : ℕ → List ℕ → Type 0
@@ -27,27 +27,27 @@ Short n [] = Unit {0}
 Short n (A ∷ As) = (n < A) × Short n As
 
 -- so the first block is of the first length that they hold
-pub cut-first : (longer : List ℕ) (B : ℕ) (Bs : List ℕ) (n : ℕ) → Short n longer → 0 < B → B ≤ n
+pub cut_first : (longer : List ℕ) (B : ℕ) (Bs : List ℕ) (n : ℕ) → Short n longer → 0 < B → B ≤ n
     → cut (longer ++ B ∷ Bs) n ≡ B ∷ cut (longer ++ B ∷ Bs) (n - B)
 unfolding Short
-cut-first [] B Bs n s g h = cut-here B Bs n g h
-cut-first (A ∷ longer) B Bs n s g h =
-    cut-past A (longer ++ B ∷ Bs) n s.0 ∙ cut-first longer B Bs n s.1 g h
-    ∙ ap (λ Cs. B ∷ Cs) (sym (cut-past A (longer ++ B ∷ Bs) (n - B) (omega (arith, s.0))))
+cut_first [] B Bs n s g h = cut_here B Bs n g h
+cut_first (A ∷ longer) B Bs n s g h =
+    cut_past A (longer ++ B ∷ Bs) n s.0 ∙ cut_first longer B Bs n s.1 g h
+    ∙ ap (λ Cs. B ∷ Cs) (sym (cut_past A (longer ++ B ∷ Bs) (n - B) (omega (arith, s.0))))
 
 -- no bits, no blocks
-pub blocks-none : blocks 0 ≡ []
-unfolding blocks blockLengths cut
-blocks-none = refl
+pub blocks_none : blocks 0 ≡ []
+unfolding blocks block_lengths cut
+blocks_none = refl
 
 -- the two sets
-pub blocks-576 : blocks 576 ≡ 256 ∷ 256 ∷ 64 ∷ []
-unfolding blocks blockLengths cut
-blocks-576 = refl
+pub blocks_576 : blocks 576 ≡ 256 ∷ 256 ∷ 64 ∷ []
+unfolding blocks block_lengths cut
+blocks_576 = refl
 
-pub blocks-1152 : blocks 1152 ≡ 256 ∷ 256 ∷ 256 ∷ 256 ∷ 128 ∷ []
-unfolding blocks blockLengths cut
-blocks-1152 = refl
+pub blocks_1152 : blocks 1152 ≡ 256 ∷ 256 ∷ 256 ∷ 256 ∷ 128 ∷ []
+unfolding blocks block_lengths cut
+blocks_1152 = refl
 
 -- ---- all blocks
 
@@ -62,26 +62,26 @@ total f [] = 0
 total f (B ∷ Bs) = f B + total f Bs
 
 -- k blocks of B bits, and then others
-words-some : (k B : ℕ) (Bs : List ℕ) → B % 32 ≡ 0 → Words Bs → Words (replicate k B ++ Bs)
+words_some : (k B : ℕ) (Bs : List ℕ) → B % 32 ≡ 0 → Words Bs → Words (replicate k B ++ Bs)
 unfolding Words
-words-some zero B Bs w h = h
-words-some (suc k) B Bs w h = (w, words-some k B Bs w h)
+words_some zero B Bs w h = h
+words_some (suc k) B Bs w h = (w, words_some k B Bs w h)
 
 -- so a cutting into lengths that are whole words is whole words
-words-cut : (Bs : List ℕ) (n : ℕ) → Words Bs → Words (cut Bs n)
+words_cut : (Bs : List ℕ) (n : ℕ) → Words Bs → Words (cut Bs n)
 unfolding Words cut
-words-cut [] n w = tt
-words-cut (B ∷ Bs) n w = words-some (n / B) B (cut Bs (n % B)) w.0 (words-cut Bs (n % B) w.1)
+words_cut [] n w = tt
+words_cut (B ∷ Bs) n w = words_some (n / B) B (cut Bs (n % B)) w.0 (words_cut Bs (n % B) w.1)
 
-pub blocks-words : (n : ℕ) → Words (blocks n)
-unfolding blocks blockLengths Words
-blocks-words n = words-cut blockLengths n (refl, (refl, (refl, (refl, tt))))
+pub blocks_words : (n : ℕ) → Words (blocks n)
+unfolding blocks block_lengths Words
+blocks_words n = words_cut block_lengths n (refl, (refl, (refl, (refl, tt))))
 
 -- k blocks of B bits are k B bits
-total-some : (k B : ℕ) (Bs : List ℕ) → total (λ B. B) (replicate k B ++ Bs) ≡ k * B + total (λ B. B) Bs
+total_some : (k B : ℕ) (Bs : List ℕ) → total (λ B. B) (replicate k B ++ Bs) ≡ k * B + total (λ B. B) Bs
 unfolding total
-total-some zero B Bs = omega arith
-total-some (suc k) B Bs = omega (arith, total-some k B Bs, suc-mul k B)
+total_some zero B Bs = omega arith
+total_some (suc k) B Bs = omega (arith, total_some k B Bs, suc-mul k B)
 
 -- the bits that a cutting leaves over
 unfoldable left : List ℕ → ℕ → ℕ
@@ -89,18 +89,18 @@ left [] n = n
 left (B ∷ Bs) n = left Bs (n % B)
 
 -- with those over, the blocks are n bits
-total-cut : (Bs : List ℕ) (n : ℕ) → total (λ B. B) (cut Bs n) + left Bs n ≡ n
+total_cut : (Bs : List ℕ) (n : ℕ) → total (λ B. B) (cut Bs n) + left Bs n ≡ n
 unfolding cut left total
-total-cut [] n = omega arith
-total-cut (B ∷ Bs) n = omega (arith, total-some (n / B) B (cut Bs (n % B)), total-cut Bs (n % B), div-add-mod' n B)
+total_cut [] n = omega arith
+total_cut (B ∷ Bs) n = omega (arith, total_some (n / B) B (cut Bs (n % B)), total_cut Bs (n % B), div-add-mod' n B)
 
 -- the blocks of n bits are n bits
-pub blocks-total : (n : ℕ) → n % 32 ≡ 0 → total (λ B. B) (blocks n) ≡ n
-unfolding blocks blockLengths left
-blocks-total n w = let e : n % 256 % 128 % 64 % 32 ≡ 0 = omega arith in omega (arith, total-cut blockLengths n)
+pub blocks_total : (n : ℕ) → n % 32 ≡ 0 → total (λ B. B) (blocks n) ≡ n
+unfolding blocks block_lengths left
+blocks_total n w = let e : n % 256 % 128 % 64 % 32 ≡ 0 = omega arith in omega (arith, total_cut block_lengths n)
 
 -- and n/8 bytes
-pub total-bytes : (Bs : List ℕ) → Words Bs → 8 * total (λ B. B / 8) Bs ≡ total (λ B. B) Bs
+pub total_bytes : (Bs : List ℕ) → Words Bs → 8 * total (λ B. B / 8) Bs ≡ total (λ B. B) Bs
 unfolding Words total
-total-bytes [] w = refl
-total-bytes (B ∷ Bs) w = omega (arith, w.0, total-bytes Bs w.1)
+total_bytes [] w = refl
+total_bytes (B ∷ Bs) w = omega (arith, w.0, total_bytes Bs w.1)

@@ -6,17 +6,17 @@ use native.Mathlib.Nat.{mul_comm, suc-mul, mul-le-mul_right, mod-lt, div-add-mod
 use native.Mathlib.Numerals.{add-one}
 use native.Mathlib.Omega.{arith}
 use lib.Arith.{digits_lt, digits_div, digits_mod}
-use Rattle.bits.specs.Listing.{place, goesTo, comesFrom}
+use Rattle.bits.specs.Listing.{place, goes_to, comes_from}
 
 -- bit t = 16u + l goes to place u of row l
-pub goesTo-row : (B t : ℕ) → goesTo B t ≡ t % 16 * (B / 16) + t / 16
-unfolding goesTo place
-goesTo-row B t = ap (λ x. 0 + x + 2 * (t / 32) + t / 16 % 2) (mul_comm (B / 16) (t % 16)) ∙ omega arith
+pub goes_to_row : (B t : ℕ) → goes_to B t ≡ t % 16 * (B / 16) + t / 16
+unfolding goes_to place
+goes_to_row B t = ap (λ x. 0 + x + 2 * (t / 32) + t / 16 % 2) (mul_comm (B / 16) (t % 16)) ∙ omega arith
 
 -- and to place u of row l comes bit 16u + l
-pub comesFrom-row : (B l u : ℕ) → u < B / 16 → comesFrom B (l * (B / 16) + u) ≡ 16 * u + l
-unfolding comesFrom
-comesFrom-row B l u h = rw (digits_mod l h, digits_div l h)
+pub comes_from_row : (B l u : ℕ) → u < B / 16 → comes_from B (l * (B / 16) + u) ≡ 16 * u + l
+unfolding comes_from
+comes_from_row B l u h = rw (digits_mod l h, digits_div l h)
 
 -- rows follow one another, and the last one ends the block
 pub row_next : (l c : ℕ) → l * c + c ≡ (l + 1) * c
@@ -33,22 +33,22 @@ module _ (B : ℕ) (words : B % 32 ≡ 0) where
   row_lt p h = let e : B ≡ 16 * (B / 16) = omega arith in (div-lt_iff_lt-mul {k = B / 16} (omega arith)).1 (subst (λ b. p < b) e h)
 
   -- each bit of the block has its place in the block, and each place its bit
-  pub goesTo-lt : (t : ℕ) → t < B → goesTo B t < B
-  goesTo-lt t h =
+  pub goes_to_lt : (t : ℕ) → t < B → goes_to B t < B
+  goes_to_lt t h =
       let d : t % 16 * (B / 16) + t / 16 < 16 * (B / 16) = digits_lt (omega arith) (omega arith) in
-      rw (goesTo-row B t) (omega arith)
+      rw (goes_to_row B t) (omega arith)
 
-  pub comesFrom-lt : (p : ℕ) → p < B → comesFrom B p < B
-  unfolding comesFrom
-  comesFrom-lt p h = let c : p % (B / 16) < B / 16 = mod-lt p (omega arith) in omega (arith, row_lt p h)
+  pub comes_from_lt : (p : ℕ) → p < B → comes_from B p < B
+  unfolding comes_from
+  comes_from_lt p h = let c : p % (B / 16) < B / 16 = mod-lt p (omega arith) in omega (arith, row_lt p h)
 
   -- and the two maps undo each other
-  pub comesFrom-goesTo : (t : ℕ) → t < B → comesFrom B (goesTo B t) ≡ t
-  comesFrom-goesTo t h = ap (comesFrom B) (goesTo-row B t) ∙ comesFrom-row B (t % 16) (t / 16) (omega arith) ∙ omega arith
+  pub comes_from_goes_to : (t : ℕ) → t < B → comes_from B (goes_to B t) ≡ t
+  comes_from_goes_to t h = ap (comes_from B) (goes_to_row B t) ∙ comes_from_row B (t % 16) (t / 16) (omega arith) ∙ omega arith
 
-  pub goesTo-comesFrom : (p : ℕ) → p < B → goesTo B (comesFrom B p) ≡ p
-  unfolding comesFrom
-  goesTo-comesFrom p h =
+  pub goes_to_comes_from : (p : ℕ) → p < B → goes_to B (comes_from B p) ≡ p
+  unfolding comes_from
+  goes_to_comes_from p h =
       let u : (16 * (p % (B / 16)) + p / (B / 16)) / 16 ≡ p % (B / 16) = omega (arith, row_lt p h) in
       let l : (16 * (p % (B / 16)) + p / (B / 16)) % 16 ≡ p / (B / 16) = omega (arith, row_lt p h) in
-      goesTo-row B _ ∙ rw (u, l) (div-add-mod' p (B / 16))
+      goes_to_row B _ ∙ rw (u, l) (div-add-mod' p (B / 16))

@@ -12,13 +12,13 @@ number zero f = 0
 number (suc w) f = f 0 + 2 * number w (λ i. f (suc i))
 
 -- the m bytes from place k on as one number, little-endian: the lowest byte first
-unfoldable pub littleEndian : ℕ → List ℕ → ℕ → ℕ
-littleEndian zero bs k = 0
-littleEndian (suc m) bs k = get_or bs k 0 + 256 * littleEndian m bs (suc k)
+unfoldable pub little_endian : ℕ → List ℕ → ℕ → ℕ
+little_endian zero bs k = 0
+little_endian (suc m) bs k = get_or bs k 0 + 256 * little_endian m bs (suc k)
 
 -- "the bytes form little-endian 32-bit words": word j
 unfoldable pub word : List ℕ → ℕ → ℕ
-word bs j = littleEndian 4 bs (4 * j)
+word bs j = little_endian 4 bs (4 * j)
 
 -- bit t of a run of bytes is bit t mod 32 of its word t div 32
 unfoldable pub bit_of : List ℕ → ℕ → ℕ

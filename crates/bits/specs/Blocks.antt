@@ -8,11 +8,11 @@ cut [] n = []
 cut (B ∷ Bs) n = replicate (n / B) B ++ cut Bs (n % B)
 
 -- "The bytes are cut into blocks of 256 bits while they last, then at most one block each of 128, 64 and 32."
-unfoldable pub blockLengths : List ℕ
-blockLengths = 256 ∷ 128 ∷ 64 ∷ 32 ∷ []
+unfoldable pub block_lengths : List ℕ
+block_lengths = 256 ∷ 128 ∷ 64 ∷ 32 ∷ []
 
 unfoldable pub blocks : ℕ → List ℕ
-blocks n = cut blockLengths n
+blocks n = cut block_lengths n
 
 -- a step done block by block, where a block of B bits takes `takes B` elements
 unfoldable pub blockwise : (ℕ → List ℕ → List ℕ) → (ℕ → ℕ) → List ℕ → List ℕ → List ℕ

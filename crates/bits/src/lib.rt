@@ -4,7 +4,7 @@ ghost use Rattle.lists.specs.Tab.{tab};
 ghost use Rattle.lists.specs.Below.{Below};
 ghost use Rattle.bits.specs.Bits.{number, bit_of};
 ghost use Rattle.bits.specs.Blocks.{blocks};
-ghost use Rattle.bits.specs.Listing.{listedBlock, unlistedBlock, listed, unlisted};
+ghost use Rattle.bits.specs.Listing.{listed_block, unlisted_block, listed, unlisted};
 
 // The length of the first block of the bits that are left.
 fn first_block(left: usize) -> usize
@@ -47,7 +47,7 @@ fn list_row(bytes: &[u8], l: u16, row: &mut [u8])
 // One block: its rows, one after the other.
 fn list_block(bytes: &[u8], bits: &mut [u8])
     requires { (length bits.old ≡ 8 * length bytes.now) × (length bits.old % 32 ≡ 0) }
-    ensures { bits.new ≡ listedBlock (length bits.old) bytes.now }
+    ensures { bits.new ≡ listed_block (length bits.old) bytes.now }
 {
     let width = bits.len() / 16;
     let mut at = 0;
@@ -89,7 +89,7 @@ fn gather(bits: &[u8], at: usize, stride: usize) -> u8
 // One block, back to bytes: of half word u the low byte from rows 0 to 7 and the high byte from rows 8 to 15.
 fn unlist_block(bits: &[u8], bytes: &mut [u8])
     requires { (length bits.now ≡ 8 * length bytes.old) × (length bits.now % 32 ≡ 0) × Below 2 bits.now }
-    ensures { bytes.new ≡ unlistedBlock (length bits.now) bits.now }
+    ensures { bytes.new ≡ unlisted_block (length bits.now) bits.now }
 {
     let stride = bits.len() / 16;
     for u in 0..stride {

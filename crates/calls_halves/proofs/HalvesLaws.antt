@@ -11,27 +11,27 @@ use lib.ListN.{length}
 use borrow.Author.Tests.{eq-eqb, ne_eqb}
 use Rattle.answers.specs.declared.Parameters.{Parameters}
 use Rattle.answers.specs.declared.SetChoice.TheVariants.{Known, Unknown}
-use Rattle.answers.specs.Sets.{setOf, forSet}
-use Rattle.answers.proofs.Exits.{for-known}
-use Rattle.answers.proofs.SetLaws.{known-set}
+use Rattle.answers.specs.Sets.{set_of, for_set}
+use Rattle.answers.proofs.Exits.{for_known}
+use Rattle.answers.proofs.SetLaws.{known_set}
 use Rattle.calls_halves.specs.Halves.{handed}
 
 module _ (set : ℕ) (key : List ℕ) where
-  pub handed-unknown : setOf set ≡ Unknown → handed set key ≡ false
-  unfolding handed forSet
-  handed-unknown e = ap (λ c. forSet c false (λ s. eqb (length key) s.private)) e
+  pub handed_unknown : set_of set ≡ Unknown → handed set key ≡ false
+  unfolding handed for_set
+  handed_unknown e = ap (λ c. for_set c false (λ s. eqb (length key) s.private)) e
 
-  module _ (s : Parameters) (e : setOf set ≡ Known s) where
+  module _ (s : Parameters) (e : set_of set ≡ Known s) where
     by_length : handed set key ≡ eqb (length key) s.private
     unfolding handed
-    by_length = for-known set s false (λ p. eqb (length key) p.private) e
+    by_length = for_known set s false (λ p. eqb (length key) p.private) e
 
-    pub handed-known : length key ≡ s.private → handed set key ≡ true
-    handed-known h = by_length ∙ eq-eqb (length key) s.private h
+    pub handed_known : length key ≡ s.private → handed set key ≡ true
+    handed_known h = by_length ∙ eq-eqb (length key) s.private h
 
-    pub handed-other : length key ≢ s.private → handed set key ≡ false
-    handed-other h = by_length ∙ ne_eqb (length key) s.private h
+    pub handed_other : length key ≢ s.private → handed set key ≡ false
+    handed_other h = by_length ∙ ne_eqb (length key) s.private h
 
     -- the halves are as long as each other
     pub middle : length key ≡ s.private → s.packed ≡ length key / 2
-    middle h = omega (arith, h, (known-set set s e).private)
+    middle h = omega (arith, h, (known_set set s e).private)

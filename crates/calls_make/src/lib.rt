@@ -3,9 +3,9 @@ ghost use Rattle.std.specs.Prelude.{[], ◌∷◌, ◌≡◌, ◌+◌, ◌*◌, 
 ghost use Rattle.residue.specs.Field.{generator, powq};
 ghost use Rattle.algebra.specs.SlotBySlot.{is_zero};
 ghost use Rattle.answers.specs.Replies.{reply, leaves, Outcome};
-ghost use Rattle.answers.specs.Tests.{atFirst};
+ghost use Rattle.answers.specs.Tests.{at_first};
 ghost use Rattle.slots.specs.Ready.{Ready};
-ghost use Rattle.stages.specs.Making.{smallF, smallG, fImage, gImage, publicKey, privateKey};
+ghost use Rattle.stages.specs.Making.{small_f, small_g, f_image, g_image, public_key, private_key};
 ghost use Rattle.calls_make.specs.Make.{Make};
 
 use answers::{Answer, SetChoice};
@@ -24,7 +24,7 @@ fn make_in(
     requires ready { Ready half step powers.now × (half ≡ length seed.now) × (half % 16 ≡ 0) × (half ≤ 576) }
     requires f_len { (length f.old ≡ half + half) × (length g.old ≡ half + half) }
     requires public_len { (length public.old ≡ 3 * half) × (length private.old ≡ 3 * half + 3 * half) }
-    ensures { Outcome (atFirst 4 is_zero (fImage half (powq generator step) (smallF seed.now) ∷ gImage half (powq generator step) (smallG seed.now) ∷ []) (reply 0 0)) result (λ R. (public.new ≡ leaves R (publicKey half (powq generator step) seed.now) public.old) × (private.new ≡ leaves R (privateKey half (powq generator step) seed.now) private.old)) }
+    ensures { Outcome (at_first 4 is_zero (f_image half (powq generator step) (small_f seed.now) ∷ g_image half (powq generator step) (small_g seed.now) ∷ []) (reply 0 0)) result (λ R. (public.new ≡ leaves R (public_key half (powq generator step) seed.now) public.old) × (private.new ≡ leaves R (private_key half (powq generator step) seed.now) private.old)) }
 {
     stages_make::pair_images(half, step, seed, powers, f, g);
     let n = f.len();

@@ -12,13 +12,13 @@ use Rattle.answers.specs.declared.Answer.{Answer}
 use Rattle.answers.specs.declared.Parameters.{Parameters}
 use Rattle.answers.specs.declared.SetChoice.TheVariants.{Known}
 use Rattle.answers.specs.Replies.{Reply, reply, leaves, Outcome}
-use Rattle.answers.specs.Sets.{setOf, forSet}
+use Rattle.answers.specs.Sets.{set_of, for_set}
 use Rattle.answers.specs.Tests.{in_range}
-use Rattle.stages.specs.Opening.{openedMarks, openedImage}
-use Rattle.answers.proofs.Exits.{right-lengths}
-use Rattle.answers.proofs.Lengths.{first-length, three-lengths}
-use Rattle.answers.proofs.SetLaws.{known-set}
-use Rattle.calls_open_1.specs.OpenOne.{openOneReply, marksOf, openedImageOf, OpenOne}
+use Rattle.stages.specs.Opening.{opened_marks, opened_image}
+use Rattle.answers.proofs.Exits.{right_lengths}
+use Rattle.answers.proofs.Lengths.{first_length, three_lengths}
+use Rattle.answers.proofs.SetLaws.{known_set}
+use Rattle.calls_open_1.specs.OpenOne.{open_one_reply, marks_of, opened_image_of, OpenOne}
 
 -- the test of the lengths
 abbrev pub fits : (private cipher marks image : ℕ) → Parameters → Bool
@@ -27,17 +27,17 @@ fits private cipher marks image s = eqb private s.private && (eqb cipher s.packe
 pub right : (private cipher marks image : ℕ) (s : Parameters) → fits private cipher marks image s ≡ true
     → (private ≡ s.private) × (cipher ≡ s.packed) × (marks ≡ s.n) × (image ≡ s.packed)
 right private cipher marks image s e =
-    let a = first-length private s.private _ e in
-    let b = three-lengths cipher s.packed marks s.n image s.packed a.1 in
+    let a = first_length private s.private _ e in
+    let b = three_lengths cipher s.packed marks s.n image s.packed a.1 in
     (a.0, b.0, b.1, b.2)
 
 module _ (private cipher marks image marks' image' : List ℕ) where
   -- what the buffers hold where R is answered, with h = n/2 and the root w
   abbrev pub Holds : ℕ → ℕ → Reply → Type 0
-  Holds h w R = (marks' ≡ leaves R (openedMarks h w private cipher) marks) × (image' ≡ leaves R (openedImage h w private cipher) image)
+  Holds h w R = (marks' ≡ leaves R (opened_marks h w private cipher) marks) × (image' ≡ leaves R (opened_image h w private cipher) image)
 
-  pub owed : (set : ℕ) (s : Parameters) → setOf set ≡ Known s → fits (length private) (length cipher) (length marks) (length image) s ≡ true
+  pub owed : (set : ℕ) (s : Parameters) → set_of set ≡ Known s → fits (length private) (length cipher) (length marks) (length image) s ≡ true
       → (r : Answer) → Outcome (in_range (groups private ∷ groups cipher ∷ []) (reply 0 0)) r (Holds s.half (powq generator s.step))
       → OpenOne set private cipher marks image r marks' image'
-  unfolding OpenOne openOneReply marksOf openedImageOf forSet
-  owed set s known f r x = right-lengths _ set _ _ s known f r (rw (known, ← (known-set set s known).root) x)
+  unfolding OpenOne open_one_reply marks_of opened_image_of for_set
+  owed set s known f r x = right_lengths _ set _ _ s known f r (rw (known, ← (known_set set s known).root) x)

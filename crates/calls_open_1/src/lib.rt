@@ -1,14 +1,14 @@
 // A private key and a ciphertext to marks and the packed image of r.
 ghost use Rattle.std.specs.Prelude.{[], ◌∷◌, ◌≡◌, ◌+◌, ◌*◌, ◌/◌, ◌%◌, ◌≤◌, length};
-ghost use Rattle.lists.specs.First.{firstThrough};
+ghost use Rattle.lists.specs.First.{first_through};
 ghost use Rattle.residue.specs.Field.{generator, powq};
-ghost use Rattle.residue.specs.Large.{tooLarge};
-ghost use Rattle.small.specs.Sampling.{firstHalf, secondHalf};
+ghost use Rattle.residue.specs.Large.{too_large};
+ghost use Rattle.small.specs.Sampling.{first_half, second_half};
 ghost use Rattle.packing.specs.Packing.{groups};
 ghost use Rattle.answers.specs.Replies.{reply, leaves, Outcome};
 ghost use Rattle.answers.specs.Tests.{in_range};
 ghost use Rattle.slots.specs.Ready.{Ready};
-ghost use Rattle.stages.specs.Opening.{openedMarks, openedImage};
+ghost use Rattle.stages.specs.Opening.{opened_marks, opened_image};
 ghost use Rattle.calls_open_1.specs.OpenOne.{OpenOne};
 
 use answers::{Answer, SetChoice};
@@ -23,9 +23,9 @@ fn unpack_all(
 ) -> usize
     requires f_len { (length f.old % 2 ≡ 0) × (length f.old ≤ 1152) × (length inverse.old ≡ length f.old) × (length c.old ≡ length f.old) }
     requires private_len { (length private.now ≡ 3 * (length f.old / 2) + 3 * (length f.old / 2)) × (length cipher.now ≡ 3 * (length f.old / 2)) }
-    ensures value { result ≡ firstThrough tooLarge (groups private.now ∷ groups cipher.now ∷ []) }
-    ensures f_after { f.new ≡ groups (firstHalf private.now) }
-    ensures inverse_after { inverse.new ≡ groups (secondHalf private.now) }
+    ensures value { result ≡ first_through too_large (groups private.now ∷ groups cipher.now ∷ []) }
+    ensures f_after { f.new ≡ groups (first_half private.now) }
+    ensures inverse_after { inverse.new ≡ groups (second_half private.now) }
     ensures c_after { c.new ≡ groups cipher.now }
 {
     let middle = private.len() / 2;
@@ -53,7 +53,7 @@ fn open_1_in(
     requires ready { Ready half step powers.now × (half ≤ 576) × (length private.now ≡ 3 * half + 3 * half) × (length cipher.now ≡ 3 * half) }
     requires f_len { (length f.old ≡ half + half) × (length inverse.old ≡ half + half) × (length c.old ≡ half + half) × (length r.old ≡ half + half) }
     requires marks_len { (length marks.old ≡ half + half) × (length image.old ≡ 3 * half) }
-    ensures { Outcome (in_range (groups private.now ∷ groups cipher.now ∷ []) (reply 0 0)) result (λ R. (marks.new ≡ leaves R (openedMarks half (powq generator step) private.now cipher.now) marks.old) × (image.new ≡ leaves R (openedImage half (powq generator step) private.now cipher.now) image.old)) }
+    ensures { Outcome (in_range (groups private.now ∷ groups cipher.now ∷ []) (reply 0 0)) result (λ R. (marks.new ≡ leaves R (opened_marks half (powq generator step) private.now cipher.now) marks.old) × (image.new ≡ leaves R (opened_image half (powq generator step) private.now cipher.now) image.old)) }
 {
     let at = unpack_all(private, cipher, f, inverse, c);
     let n = f.len();

@@ -6,16 +6,16 @@ use mathlib.Core.Path.{◌≡◌}
 use Prim.Native.Nat.{ℕ}
 use lib.Dec.{eqb}
 use lib.ListN.{length}
-use Rattle.marks.specs.Marks.{noMark}
+use Rattle.marks.specs.Marks.{no_mark}
 use Rattle.answers.specs.declared.Answer.{Answer}
 use Rattle.answers.specs.declared.Parameters.{Parameters}
 use Rattle.answers.specs.declared.SetChoice.TheVariants.{Known}
 use Rattle.answers.specs.Replies.{Reply, reply, leaves, Outcome}
-use Rattle.answers.specs.Sets.{setOf}
-use Rattle.answers.specs.Tests.{atFirst}
-use Rattle.stages.specs.Opening.{openedMessage}
-use Rattle.answers.proofs.Exits.{right-lengths}
-use Rattle.calls_open_2.specs.OpenTwo.{openTwoReply, OpenTwo}
+use Rattle.answers.specs.Sets.{set_of}
+use Rattle.answers.specs.Tests.{at_first}
+use Rattle.stages.specs.Opening.{opened_message}
+use Rattle.answers.proofs.Exits.{right_lengths}
+use Rattle.calls_open_2.specs.OpenTwo.{open_two_reply, OpenTwo}
 
 -- the test of the lengths
 abbrev pub fits : (marks gblock message : ℕ) → Parameters → Bool
@@ -24,9 +24,9 @@ fits marks gblock message s = eqb marks s.n && (eqb gblock s.gblock && eqb messa
 module _ (marks gblock message message' : List ℕ) where
   -- what the buffer holds where R is answered
   abbrev pub Holds : Reply → Type 0
-  Holds R = message' ≡ leaves R (openedMessage marks gblock) message
+  Holds R = message' ≡ leaves R (opened_message marks gblock) message
 
-  pub owed : (set : ℕ) (s : Parameters) → setOf set ≡ Known s → fits (length marks) (length gblock) (length message) s ≡ true
-      → (r : Answer) → Outcome (atFirst 5 noMark (marks ∷ []) (reply 0 0)) r Holds → OpenTwo set marks gblock message r message'
-  unfolding OpenTwo openTwoReply
-  owed set s known f r x = right-lengths _ set _ _ s known f r x
+  pub owed : (set : ℕ) (s : Parameters) → set_of set ≡ Known s → fits (length marks) (length gblock) (length message) s ≡ true
+      → (r : Answer) → Outcome (at_first 5 no_mark (marks ∷ []) (reply 0 0)) r Holds → OpenTwo set marks gblock message r message'
+  unfolding OpenTwo open_two_reply
+  owed set s known f r x = right_lengths _ set _ _ s known f r x

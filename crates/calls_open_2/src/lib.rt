@@ -1,9 +1,9 @@
 // Marks to the message that they decode to.
 ghost use Rattle.std.specs.Prelude.{[], ◌∷◌, ◌≡◌, ◌*◌, ◌%◌, length};
-ghost use Rattle.marks.specs.Marks.{noMark};
+ghost use Rattle.marks.specs.Marks.{no_mark};
 ghost use Rattle.answers.specs.Replies.{reply, leaves, Outcome};
-ghost use Rattle.answers.specs.Tests.{atFirst};
-ghost use Rattle.stages.specs.Opening.{openedMessage};
+ghost use Rattle.answers.specs.Tests.{at_first};
+ghost use Rattle.stages.specs.Opening.{opened_message};
 ghost use Rattle.calls_open_2.specs.OpenTwo.{OpenTwo};
 
 use answers::{Answer, SetChoice};
@@ -18,7 +18,7 @@ fn open_2_in(
 ) -> Answer
     requires message_len { (length message.old % 4 ≡ 0) × (length marks.now ≡ 8 * length message.old) × (length gblock.now ≡ 2 * length message.old) }
     requires bits_len { (length bits.old ≡ 8 * length message.old) × (length halves.old ≡ 16 * length message.old) }
-    ensures { Outcome (atFirst 5 noMark (marks.now ∷ []) (reply 0 0)) result (λ R. message.new ≡ leaves R (openedMessage marks.now gblock.now) message.old) }
+    ensures { Outcome (at_first 5 no_mark (marks.now ∷ []) (reply 0 0)) result (λ R. message.new ≡ leaves R (opened_message marks.now gblock.now) message.old) }
 {
     let at = marks::first_bad(marks);
     if at < marks.len() {

@@ -13,12 +13,12 @@ use Rattle.answers.specs.declared.Answer.{Answer}
 use Rattle.answers.specs.declared.Parameters.{Parameters}
 use Rattle.answers.specs.declared.SetChoice.TheVariants.{Known}
 use Rattle.answers.specs.Replies.{Reply, reply, leaves, Outcome}
-use Rattle.answers.specs.Sets.{setOf}
+use Rattle.answers.specs.Sets.{set_of}
 use Rattle.answers.specs.Tests.{in_range}
-use Rattle.stages.specs.Sealing.{keyBytes, rImage}
-use Rattle.answers.proofs.Exits.{right-lengths}
-use Rattle.answers.proofs.SetLaws.{known-set}
-use Rattle.calls_open_3.specs.OpenThree.{openThreeReply, OpenThree}
+use Rattle.stages.specs.Sealing.{key_bytes, r_image}
+use Rattle.answers.proofs.Exits.{right_lengths}
+use Rattle.answers.proofs.SetLaws.{known_set}
+use Rattle.calls_open_3.specs.OpenThree.{open_three_reply, OpenThree}
 
 -- the test of the lengths
 abbrev pub fits : (image hblock key : ℕ) → Parameters → Bool
@@ -27,13 +27,13 @@ fits image hblock key s = eqb image s.packed && (eqb hblock s.hblock && eqb key 
 module _ (image hblock key key' : List ℕ) where
   -- what is answered once no group is too large, with h = n/2 and the root w
   abbrev pub compared : ℕ → ℕ → Reply
-  compared h w = cond (equal (groups image) (rImage h w hblock)) (reply 0 0) (reply 6 0)
+  compared h w = cond (equal (groups image) (r_image h w hblock)) (reply 0 0) (reply 6 0)
 
   -- and what the buffer holds where R is answered
   abbrev pub Holds : Reply → Type 0
-  Holds R = key' ≡ leaves R (keyBytes hblock) key
+  Holds R = key' ≡ leaves R (key_bytes hblock) key
 
-  pub owed : (set : ℕ) (s : Parameters) → setOf set ≡ Known s → fits (length image) (length hblock) (length key) s ≡ true
+  pub owed : (set : ℕ) (s : Parameters) → set_of set ≡ Known s → fits (length image) (length hblock) (length key) s ≡ true
       → (r : Answer) → Outcome (in_range (groups image ∷ []) (compared s.half (powq generator s.step))) r Holds → OpenThree set image hblock key r key'
-  unfolding OpenThree openThreeReply
-  owed set s known f r x = right-lengths _ set _ _ s known f r (rw (← (known-set set s known).root) x)
+  unfolding OpenThree open_three_reply
+  owed set s known f r x = right_lengths _ set _ _ s known f r (rw (← (known_set set s known).root) x)

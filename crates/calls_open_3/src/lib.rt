@@ -6,7 +6,7 @@ ghost use Rattle.packing.specs.Packing.{groups};
 ghost use Rattle.answers.specs.Replies.{reply, leaves, Outcome};
 ghost use Rattle.answers.specs.Tests.{in_range};
 ghost use Rattle.slots.specs.Ready.{Ready};
-ghost use Rattle.stages.specs.Sealing.{keyBytes, rImage};
+ghost use Rattle.stages.specs.Sealing.{key_bytes, r_image};
 ghost use Rattle.calls_open_3.specs.OpenThree.{OpenThree};
 
 use answers::{Answer, SetChoice};
@@ -24,7 +24,7 @@ fn open_3_in(
 ) -> Answer
     requires ready { Ready half step powers.now × (half % 16 ≡ 0) × (length hblock.now + length hblock.now ≡ 64 + half) × (length image.now ≡ 3 * half) }
     requires lent_len { (length lent.old ≡ half + half) × (length r.old ≡ half + half) × (length key.old ≡ 32) }
-    ensures { Outcome (in_range (groups image.now ∷ []) (cond (equal (groups image.now) (rImage half (powq generator step) hblock.now)) (reply 0 0) (reply 6 0))) result (λ R. key.new ≡ leaves R (keyBytes hblock.now) key.old) }
+    ensures { Outcome (in_range (groups image.now ∷ []) (cond (equal (groups image.now) (r_image half (powq generator step) hblock.now)) (reply 0 0) (reply 6 0))) result (λ R. key.new ≡ leaves R (key_bytes hblock.now) key.old) }
 {
     let at = packing::unpack(image, lent);
     if at < lent.len() {

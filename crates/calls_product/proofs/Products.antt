@@ -6,55 +6,55 @@ use Prim.Native.Nat.{ℕ, ◌≤◌}
 use native.Mathlib.Omega.{arith}
 use lib.ListN.{length}
 use borrow.Author.Tests.{eq-eqb, le-ltb}
-use Rattle.lists.specs.First.{firstThrough}
-use Rattle.residue.specs.Large.{tooLarge, firstLarge}
+use Rattle.lists.specs.First.{first_through}
+use Rattle.residue.specs.Large.{too_large, first_large}
 use Rattle.residue.specs.Residues.{Residues}
 use Rattle.answers.specs.declared.Answer.{Answer}
 use Rattle.answers.specs.declared.Parameters.{Parameters}
 use Rattle.answers.specs.declared.SetChoice.TheVariants.{Known}
 use Rattle.answers.specs.Answers.{number_of, place_of}
 use Rattle.answers.specs.Replies.{Reply, reply, leaves}
-use Rattle.answers.specs.Sets.{setOf, forSet}
-use Rattle.answers.specs.Tests.{inOrder, atFirst, in_range}
-use Rattle.lists.proofs.FirstLaws.{length-through, length-one, through-past, through-one}
-use Rattle.residue.proofs.LargeLaws.{none-large}
-use Rattle.calls_product.specs.Product.{productReply, productOf, Product}
+use Rattle.answers.specs.Sets.{set_of, for_set}
+use Rattle.answers.specs.Tests.{in_order, at_first, in_range}
+use Rattle.lists.proofs.FirstLaws.{length_through, length_one, through_past, through_one}
+use Rattle.residue.proofs.LargeLaws.{none_large}
+use Rattle.calls_product.specs.Product.{product_reply, product_of, Product}
 
-module _ (set : ℕ) (s : Parameters) (known : setOf set ≡ Known s) (a b : List ℕ) (ra : Residues s.n a) (rb : Residues s.n b) where
-  none-too-large : length (flatten (a ∷ b ∷ [])) ≤ firstThrough tooLarge (a ∷ b ∷ [])
-  unfolding firstLarge
-  none-too-large =
+module _ (set : ℕ) (s : Parameters) (known : set_of set ≡ Known s) (a b : List ℕ) (ra : Residues s.n a) (rb : Residues s.n b) where
+  none_too_large : length (flatten (a ∷ b ∷ [])) ≤ first_through too_large (a ∷ b ∷ [])
+  unfolding first_large
+  none_too_large =
       omega (
         arith,
-        length-through a (b ∷ []),
-        length-one b,
+        length_through a (b ∷ []),
+        length_one b,
         ra.long,
         rb.long,
-        none-large ra,
-        none-large rb,
-        through-past tooLarge a (b ∷ []) (omega (arith, ra.long, none-large ra)),
-        through-one tooLarge b,
+        none_large ra,
+        none_large rb,
+        through_past too_large a (b ∷ []) (omega (arith, ra.long, none_large ra)),
+        through_one too_large b,
       )
 
   -- the answer is 0
-  pub product-answers : (room : ℕ) → room ≡ s.n → productReply set a b room ≡ reply 0 0
-  unfolding productReply inOrder forSet in_range atFirst
-  product-answers room e =
+  pub product_answers : (room : ℕ) → room ≡ s.n → product_reply set a b room ≡ reply 0 0
+  unfolding product_reply in_order for_set in_range at_first
+  product_answers room e =
       simp (
         known,
         eq-eqb (length a) s.n ra.long,
         eq-eqb (length b) s.n rb.long,
         eq-eqb room s.n e,
-        le-ltb (firstThrough tooLarge (a ∷ b ∷ [])) (length (flatten (a ∷ b ∷ []))) none-too-large,
+        le-ltb (first_through too_large (a ∷ b ∷ [])) (length (flatten (a ∷ b ∷ []))) none_too_large,
       )
 
   -- so the call answers 0 and writes the product
-  pub product-done : (before : List ℕ) (r : Answer) (after : List ℕ) → length before ≡ s.n → Product set a b before r after
-      → (number_of r ≡ 0) × (place_of r ≡ 0) × (after ≡ productOf set a b)
+  pub product_done : (before : List ℕ) (r : Answer) (after : List ℕ) → length before ≡ s.n → Product set a b before r after
+      → (number_of r ≡ 0) × (place_of r ≡ 0) × (after ≡ product_of set a b)
   unfolding Product leaves
-  product-done before r after long p =
-      let e = product-answers (length before) long in (
+  product_done before r after long p =
+      let e = product_answers (length before) long in (
         p.number ∙ ap (λ (R : Reply). R.number) e,
         p.place ∙ ap (λ (R : Reply). R.place) e,
-        p.content ∙ ap (λ (R : Reply). leaves R (productOf set a b) before) e,
+        p.content ∙ ap (λ (R : Reply). leaves R (product_of set a b) before) e,
       )

@@ -3,7 +3,7 @@ ghost use Rattle.std.specs.Prelude.{◌≡◌, ◌+◌, ◌*◌, ◌%◌, length
 ghost use Rattle.residue.specs.Field.{generator, powq};
 ghost use Rattle.packing.specs.Packing.{packed};
 ghost use Rattle.slots.specs.Ready.{Ready};
-ghost use Rattle.stages.specs.Sealing.{rImage};
+ghost use Rattle.stages.specs.Sealing.{r_image};
 ghost use Rattle.calls_r_image.specs.RImage.{RImage};
 
 use answers::{Answer, SetChoice};
@@ -19,7 +19,7 @@ fn r_image_in(
 )
     requires ready { Ready half step powers.now × (half % 16 ≡ 0) × (length hblock.now + length hblock.now ≡ 64 + half) }
     requires r_len { (length r.old ≡ half + half) × (length image.old ≡ 3 * half) }
-    ensures { image.new ≡ packed (rImage half (powq generator step) hblock.now) }
+    ensures { image.new ≡ packed (r_image half (powq generator step) hblock.now) }
 {
     stages_seal::r_image(half, step, hblock, powers, r);
     packing::pack(r, image);

@@ -4,10 +4,10 @@ ghost use Rattle.residue.specs.Field.{generator, powq};
 ghost use Rattle.packing.specs.Packing.{groups};
 ghost use Rattle.answers.specs.declared.SetChoice.TheVariants.{Known};
 ghost use Rattle.answers.specs.Replies.{reply, leaves, Outcome};
-ghost use Rattle.answers.specs.Sets.{setOf};
+ghost use Rattle.answers.specs.Sets.{set_of};
 ghost use Rattle.answers.specs.Tests.{in_range};
 ghost use Rattle.slots.specs.Ready.{Ready};
-ghost use Rattle.stages.specs.Sealing.{keyBytes, ciphertext};
+ghost use Rattle.stages.specs.Sealing.{key_bytes, ciphertext};
 ghost use Rattle.calls_seal.specs.Seal.{Seal};
 
 use answers::{Answer, Parameters, SetChoice};
@@ -31,7 +31,7 @@ fn seal_in(
     requires ready { Ready half step powers.now × (length public.now ≡ 3 * half) × (length message.now % 4 ≡ 0) × (half ≡ 4 * length message.now) × (length hblock.now ≡ 32 + length gblock.now) × (length gblock.now ≡ 2 * length message.now) }
     requires h_len { (length h.old ≡ half + half) × (length p.old ≡ half + half) × (length r.old ≡ half + half) × (length c.old ≡ half + half) }
     requires cipher_len { (length cipher.old ≡ 3 * half) × (length key.old ≡ 32) }
-    ensures { Outcome (in_range (groups public.now ∷ []) (reply 0 0)) result (λ R. (cipher.new ≡ leaves R (ciphertext half (powq generator step) public.now message.now hblock.now gblock.now) cipher.old) × (key.new ≡ leaves R (keyBytes hblock.now) key.old)) }
+    ensures { Outcome (in_range (groups public.now ∷ []) (reply 0 0)) result (λ R. (cipher.new ≡ leaves R (ciphertext half (powq generator step) public.now message.now hblock.now gblock.now) cipher.old) × (key.new ≡ leaves R (key_bytes hblock.now) key.old)) }
 {
     let at = packing::unpack(public, h);
     if at < h.len() {
@@ -53,9 +53,9 @@ fn seal_known(
     cipher: &mut [u8],
     key: &mut [u8],
 ) -> Answer
-    requires n_value { setOf s.n ≡ Known s }
+    requires n_value { set_of s.n ≡ Known s }
     requires public_len { (length public.now ≡ s.packed) × (length message.now ≡ s.message) × (length hblock.now ≡ s.hblock) × (length gblock.now ≡ s.gblock) × (length cipher.old ≡ s.packed) × (length key.old ≡ s.key) }
-    ensures { Outcome (in_range (groups public.now ∷ []) (reply 0 0)) result (λ R. (cipher.new ≡ leaves R (ciphertext s.half (powq generator s.step) public.now message.now hblock.now gblock.now) cipher.old) × (key.new ≡ leaves R (keyBytes hblock.now) key.old)) }
+    ensures { Outcome (in_range (groups public.now ∷ []) (reply 0 0)) result (λ R. (cipher.new ≡ leaves R (ciphertext s.half (powq generator s.step) public.now message.now hblock.now gblock.now) cipher.old) × (key.new ≡ leaves R (key_bytes hblock.now) key.old)) }
 {
     let n = s.n;
     let powers = powers::powers();

@@ -13,18 +13,18 @@ use Rattle.answers.specs.declared.Answer.{Answer}
 use Rattle.answers.specs.declared.Answer.TheVariants.{Done}
 use Rattle.answers.specs.declared.Parameters.{Parameters}
 use Rattle.answers.specs.Replies.{leaves, Outcome}
-use Rattle.answers.specs.Sets.{setOf, forSet}
+use Rattle.answers.specs.Sets.{set_of, for_set}
 use Rattle.slots.specs.Ready.{Ready}
 use Rattle.answers.proofs.Exits as X
-use Rattle.answers.proofs.SetLaws.{IsSet, known-set}
+use Rattle.answers.proofs.SetLaws.{IsSet, known_set}
 use Rattle.calls_transforms.specs.declared.tests.Tested.TheVariants.{Refused, Ready as Passed}
 use Rattle.calls_transforms.specs.Tests.{Tells}
-use Rattle.calls_transforms.specs.Transform.{listReply}
+use Rattle.calls_transforms.specs.Transform.{list_reply}
 
 module _ (set : ℕ) (a before : List ℕ) where
   -- owed where r is answered, the result being given, and the list that held `before` holds `after`
   abbrev Owed : List ℕ → Answer → List ℕ → Type 0
-  Owed result r after = Outcome (listReply set a (length before)) r (λ R. after ≡ leaves R result before)
+  Owed result r after = Outcome (list_reply set a (length before)) r (λ R. after ≡ leaves R result before)
 
   -- a refusal keeps the list
   pub kept : (result : List ℕ) (r : Answer) → Tells set a (length before) (Refused r) → Owed result r before
@@ -33,13 +33,13 @@ module _ (set : ℕ) (a before : List ℕ) where
       record {
         number = told.number;
         place = told.place;
-        content = sym (ap (λ b. cond b result before) (ne_eqb (listReply set a (length before)).number 0 told.content));
+        content = sym (ap (λ b. cond b result before) (ne_eqb (list_reply set a (length before)).number 0 told.content));
       }
 
   module _ (s : Parameters) (told : Tells set a (length before) (Passed s)) where
     pub is_set : IsSet set s
     unfolding Tells
-    is_set = known-set set s told.1
+    is_set = known_set set s told.1
 
     -- the engine is given an element, a table and room
     pub ready : {powers : List ℕ} → Powers generator one powers
@@ -49,8 +49,8 @@ module _ (set : ℕ) (a before : List ℕ) where
         (record { turns = is_set.turns; table = table }, subst (λ n. Residues n a) is_set.whole told.2, told.3 ∙ is_set.whole)
 
     -- done, where the list holds what the definition gives for the set
-    pub done : (f : Parameters → List ℕ) (after : List ℕ) → after ≡ f s → Owed (forSet (setOf set) [] f) Done after
+    pub done : (f : Parameters → List ℕ) (after : List ℕ) → after ≡ f s → Owed (for_set (set_of set) [] f) Done after
     unfolding Tells leaves
     done f after e =
-        subst (λ R. Outcome R Done (λ R. after ≡ leaves R (forSet (setOf set) [] f) before)) (sym told.0)
-        (X.done (λ R. after ≡ leaves R (forSet (setOf set) [] f) before) (e ∙ sym (X.for-known set s [] f told.1)))
+        subst (λ R. Outcome R Done (λ R. after ≡ leaves R (for_set (set_of set) [] f) before)) (sym told.0)
+        (X.done (λ R. after ≡ leaves R (for_set (set_of set) [] f) before) (e ∙ sym (X.for_known set s [] f told.1)))

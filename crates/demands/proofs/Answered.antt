@@ -9,15 +9,15 @@ use native.Mathlib.Decide.{dec_le}
 use native.Mathlib.Omega.{arith}
 use lib.ListN.{length}
 use borrow.Author.Tests.{eq-eqb, lt-ltb}
-use Rattle.lists.specs.First.{firstThrough}
+use Rattle.lists.specs.First.{first_through}
 use Rattle.answers.specs.declared.Answer.{Answer}
 use Rattle.answers.specs.declared.Parameters.{Parameters}
 use Rattle.answers.specs.declared.SetChoice.{SetChoice}
 use Rattle.answers.specs.declared.SetChoice.TheVariants.{Known, Unknown}
 use Rattle.answers.specs.Answers.{number_of}
 use Rattle.answers.specs.Replies.{Reply, reply, leaves, Outcome}
-use Rattle.answers.specs.Sets.{setOf, forSet}
-use Rattle.answers.specs.Tests.{inOrder, atFirst}
+use Rattle.answers.specs.Sets.{set_of, for_set}
+use Rattle.answers.specs.Tests.{in_order, at_first}
 
 -- ---- where 0 is answered
 
@@ -32,35 +32,35 @@ module _ (set : ℕ) (fits : Parameters → Bool) (rest : Parameters → Reply) 
   right_by s false e h = absurd (omega (arith, h))
 
   -- of a known set: the lengths are right, and nothing else refuses
-  pub passed : (s : Parameters) → setOf set ≡ Known s → (inOrder set fits rest).number ≡ 0 → (fits s ≡ true) × ((rest s).number ≡ 0)
-  unfolding inOrder forSet
+  pub passed : (s : Parameters) → set_of set ≡ Known s → (in_order set fits rest).number ≡ 0 → (fits s ≡ true) × ((rest s).number ≡ 0)
+  unfolding in_order for_set
   passed s e h =
-      right_by s (fits s) refl (subst (λ c. (forSet c (reply 1 0) (λ s. cond (fits s) (rest s) (reply 2 0))).number ≡ 0) e h)
+      right_by s (fits s) refl (subst (λ c. (for_set c (reply 1 0) (λ s. cond (fits s) (rest s) (reply 2 0))).number ≡ 0) e h)
 
   -- and the set is known
-  known_by : (c : SetChoice) → setOf set ≡ c → (forSet c (reply 1 0) (λ s. cond (fits s) (rest s) (reply 2 0))).number ≡ 0
-      → (s : Parameters) × (setOf set ≡ Known s)
-  unfolding forSet
+  known_by : (c : SetChoice) → set_of set ≡ c → (for_set c (reply 1 0) (λ s. cond (fits s) (rest s) (reply 2 0))).number ≡ 0
+      → (s : Parameters) × (set_of set ≡ Known s)
+  unfolding for_set
   known_by Unknown e h = absurd (omega (arith, h))
   known_by (Known s) e h = (s, e)
 
-  pub is_known : (inOrder set fits rest).number ≡ 0 → (s : Parameters) × (setOf set ≡ Known s)
-  unfolding inOrder
-  is_known = known_by (setOf set) refl
+  pub is_known : (in_order set fits rest).number ≡ 0 → (s : Parameters) × (set_of set ≡ Known s)
+  unfolding in_order
+  is_known = known_by (set_of set) refl
 
 -- a test of numbers held nowhere
-pub nowhere : (number : ℕ) (bad : ℕ → Bool) (inputs : List (List ℕ)) (rest : Reply) → number ≢ 0 → (atFirst number bad inputs rest).number ≡ 0
-    → length (flatten inputs) ≤ firstThrough bad inputs
-unfolding atFirst
-nowhere number bad inputs rest ne h = by (dec_le (length (flatten inputs)) (firstThrough bad inputs))
+pub nowhere : (number : ℕ) (bad : ℕ → Bool) (inputs : List (List ℕ)) (rest : Reply) → number ≢ 0 → (at_first number bad inputs rest).number ≡ 0
+    → length (flatten inputs) ≤ first_through bad inputs
+unfolding at_first
+nowhere number bad inputs rest ne h = by (dec_le (length (flatten inputs)) (first_through bad inputs))
   where
-    by : Dec (length (flatten inputs) ≤ firstThrough bad inputs) → length (flatten inputs) ≤ firstThrough bad inputs
+    by : Dec (length (flatten inputs) ≤ first_through bad inputs) → length (flatten inputs) ≤ first_through bad inputs
     by (yes l) = l
     by (no l) =
-        absurd (ne (subst (λ b. (cond b (reply number (firstThrough bad inputs)) rest).number ≡ 0)
-        (lt-ltb (firstThrough bad inputs) (length (flatten inputs)) (omega (arith, l))) h))
+        absurd (ne (subst (λ b. (cond b (reply number (first_through bad inputs)) rest).number ≡ 0)
+        (lt-ltb (first_through bad inputs) (length (flatten inputs)) (omega (arith, l))) h))
 
 -- ---- and where the definition answers 0, the call does, and its buffers hold their results
 
-pub outcome-done : {R : Reply} {r : Answer} {Holds : Reply → Type 0} → Outcome R r Holds → R ≡ reply 0 0 → (number_of r ≡ 0) × Holds (reply 0 0)
-outcome-done {Holds = Holds} o e = (o.number ∙ ap (λ (R : Reply). R.number) e, subst Holds e o.content)
+pub outcome_done : {R : Reply} {r : Answer} {Holds : Reply → Type 0} → Outcome R r Holds → R ≡ reply 0 0 → (number_of r ≡ 0) × Holds (reply 0 0)
+outcome_done {Holds = Holds} o e = (o.number ∙ ap (λ (R : Reply). R.number) e, subst Holds e o.content)

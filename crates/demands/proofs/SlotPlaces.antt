@@ -10,37 +10,37 @@ use Rattle.algebra.specs.Transform.{image}
 use Rattle.answers.specs.declared.Parameters.{Parameters}
 use Rattle.answers.specs.declared.SetChoice.{SetChoice}
 use Rattle.answers.specs.declared.SetChoice.TheVariants.{Known, Unknown}
-use Rattle.answers.specs.Sets.{setOf}
+use Rattle.answers.specs.Sets.{set_of}
 use Rattle.stages.specs.Images.{image_of}
-use Rattle.stages.specs.Making.{smallF, fImage}
-use Rattle.lists.proofs.TabLaws.{length-tab}
-use Rattle.answers.proofs.Exits.{for-known}
-use Rattle.answers.proofs.SetLaws.{known-set}
-use Rattle.demands.specs.Table.{unknownSet}
-use Rattle.demands.specs.TableOwn.{slotsOfF, slotsOfG}
-use Rattle.demands.proofs.ExactlyLaws.{unknown-numbers}
+use Rattle.stages.specs.Making.{small_f, f_image}
+use Rattle.lists.proofs.TabLaws.{length_tab}
+use Rattle.answers.proofs.Exits.{for_known}
+use Rattle.answers.proofs.SetLaws.{known_set}
+use Rattle.demands.specs.Table.{unknown_set}
+use Rattle.demands.specs.TableOwn.{slots_of_f, slots_of_g}
+use Rattle.demands.proofs.ExactlyLaws.{unknown_numbers}
 
 -- f has n slots
-f-long : (set : ℕ) (seed : List ℕ) (s : Parameters) → setOf set ≡ Known s → length (slotsOfF set seed) ≡ set
-unfolding slotsOfF fImage image_of image
-f-long set seed s e =
-    let i = known-set set s e in
-    ap length (for-known set s [] (λ p. fImage p.half p.root (smallF seed)) e) ∙ length-tab _ _ ∙ sym i.whole ∙ i.size
+f_long : (set : ℕ) (seed : List ℕ) (s : Parameters) → set_of set ≡ Known s → length (slots_of_f set seed) ≡ set
+unfolding slots_of_f f_image image_of image
+f_long set seed s e =
+    let i = known_set set s e in
+    ap length (for_known set s [] (λ p. f_image p.half p.root (small_f seed)) e) ∙ length_tab _ _ ∙ sym i.whole ∙ i.size
 
 -- so before place n a slot of f, from place n on a slot of g
-pub make-place : (set : ℕ) (seed : List ℕ) (k : ℕ) → ¬ (unknownSet set).when
-    → (k < set → get_or (flatten (slotsOfF set seed ∷ slotsOfG set seed ∷ [])) k 0 ≡ get_or (slotsOfF set seed) k 0)
-    × (get_or (flatten (slotsOfF set seed ∷ slotsOfG set seed ∷ [])) (set + k) 0 ≡ get_or (slotsOfG set seed) k 0)
+pub make_place : (set : ℕ) (seed : List ℕ) (k : ℕ) → ¬ (unknown_set set).when
+    → (k < set → get_or (flatten (slots_of_f set seed ∷ slots_of_g set seed ∷ [])) k 0 ≡ get_or (slots_of_f set seed) k 0)
+    × (get_or (flatten (slots_of_f set seed ∷ slots_of_g set seed ∷ [])) (set + k) 0 ≡ get_or (slots_of_g set seed) k 0)
 unfolding flatten
-make-place set seed k known = by (setOf set) refl
+make_place set seed k known = by (set_of set) refl
   where
-    by : (c : SetChoice) → setOf set ≡ c
-        → (k < set → get_or (slotsOfF set seed ++ (slotsOfG set seed ++ [])) k 0 ≡ get_or (slotsOfF set seed) k 0)
-        × (get_or (slotsOfF set seed ++ (slotsOfG set seed ++ [])) (set + k) 0 ≡ get_or (slotsOfG set seed) k 0)
-    by Unknown e = absurd (known (unknown-numbers set e))
+    by : (c : SetChoice) → set_of set ≡ c
+        → (k < set → get_or (slots_of_f set seed ++ (slots_of_g set seed ++ [])) k 0 ≡ get_or (slots_of_f set seed) k 0)
+        × (get_or (slots_of_f set seed ++ (slots_of_g set seed ++ [])) (set + k) 0 ≡ get_or (slots_of_g set seed) k 0)
+    by Unknown e = absurd (known (unknown_numbers set e))
     by (Known s) e =
-        let l = f-long set seed s e in (
-          λ h. get_or-append (slotsOfF set seed) _ 0 k (omega (arith, h, l)),
-          ap (λ n. get_or (slotsOfF set seed ++ (slotsOfG set seed ++ [])) (n + k) 0) (sym l)
-              ∙ get_or-append-add (slotsOfF set seed) _ k 0 ∙ ap (λ m. get_or m k 0) (append-nil (slotsOfG set seed)),
+        let l = f_long set seed s e in (
+          λ h. get_or-append (slots_of_f set seed) _ 0 k (omega (arith, h, l)),
+          ap (λ n. get_or (slots_of_f set seed ++ (slots_of_g set seed ++ [])) (n + k) 0) (sym l)
+              ∙ get_or-append-add (slots_of_f set seed) _ k 0 ∙ ap (λ m. get_or m k 0) (append-nil (slots_of_g set seed)),
         )

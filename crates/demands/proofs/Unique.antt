@@ -20,62 +20,62 @@ use Rattle.answers.proofs.AnswerLaws.{one_answer}
 -- ---- the calls that write one buffer: the answer and the buffer
 
 module _ (set : ℕ) {r s : Answer} {x y : List ℕ} where
-  pub product-unique : (a b before : List ℕ) → Product set a b before r x → Product set a b before s y → (r ≡ s) × (x ≡ y)
+  pub product_unique : (a b before : List ℕ) → Product set a b before r x → Product set a b before s y → (r ≡ s) × (x ≡ y)
   unfolding Product
-  product-unique a b before p q = (one_answer p q, p.content ∙ sym q.content)
+  product_unique a b before p q = (one_answer p q, p.content ∙ sym q.content)
 
-  pub transform-unique : (a before : List ℕ) → Transform set a before r x → Transform set a before s y → (r ≡ s) × (x ≡ y)
+  pub transform_unique : (a before : List ℕ) → Transform set a before r x → Transform set a before s y → (r ≡ s) × (x ≡ y)
   unfolding Transform
-  transform-unique a before p q = (one_answer p q, p.content ∙ sym q.content)
+  transform_unique a before p q = (one_answer p q, p.content ∙ sym q.content)
 
-  pub reverse-unique : (a before : List ℕ) → Reverse set a before r x → Reverse set a before s y → (r ≡ s) × (x ≡ y)
+  pub reverse_unique : (a before : List ℕ) → Reverse set a before r x → Reverse set a before s y → (r ≡ s) × (x ≡ y)
   unfolding Reverse
-  reverse-unique a before p q = (one_answer p q, p.content ∙ sym q.content)
+  reverse_unique a before p q = (one_answer p q, p.content ∙ sym q.content)
 
-  pub r-image-unique : (hblock image : List ℕ) → RImage set hblock image r x → RImage set hblock image s y → (r ≡ s) × (x ≡ y)
+  pub r_image_unique : (hblock image : List ℕ) → RImage set hblock image r x → RImage set hblock image s y → (r ≡ s) × (x ≡ y)
   unfolding RImage
-  r-image-unique hblock image p q = (one_answer p q, p.content ∙ sym q.content)
+  r_image_unique hblock image p q = (one_answer p q, p.content ∙ sym q.content)
 
-  pub open-two-unique : (marks gblock message : List ℕ) → OpenTwo set marks gblock message r x → OpenTwo set marks gblock message s y
+  pub open_two_unique : (marks gblock message : List ℕ) → OpenTwo set marks gblock message r x → OpenTwo set marks gblock message s y
       → (r ≡ s) × (x ≡ y)
   unfolding OpenTwo
-  open-two-unique marks gblock message p q = (one_answer p q, p.content ∙ sym q.content)
+  open_two_unique marks gblock message p q = (one_answer p q, p.content ∙ sym q.content)
 
-  pub open-three-unique : (image hblock key : List ℕ) → OpenThree set image hblock key r x → OpenThree set image hblock key s y
+  pub open_three_unique : (image hblock key : List ℕ) → OpenThree set image hblock key r x → OpenThree set image hblock key s y
       → (r ≡ s) × (x ≡ y)
   unfolding OpenThree
-  open-three-unique image hblock key p q = (one_answer p q, p.content ∙ sym q.content)
+  open_three_unique image hblock key p q = (one_answer p q, p.content ∙ sym q.content)
 
 -- ---- the calls that write two: the answer and both
 
 module _ (set : ℕ) {r s : Answer} {x y u v : List ℕ} where
-  pub make-unique : (seed public private : List ℕ) → Make set seed public private r x u → Make set seed public private s y v
+  pub make_unique : (seed public private : List ℕ) → Make set seed public private r x u → Make set seed public private s y v
       → (r ≡ s) × (x ≡ y) × (u ≡ v)
   unfolding Make
-  make-unique seed public private p q = (one_answer p q, p.content.0 ∙ sym q.content.0, p.content.1 ∙ sym q.content.1)
+  make_unique seed public private p q = (one_answer p q, p.content.0 ∙ sym q.content.0, p.content.1 ∙ sym q.content.1)
 
-  pub seal-unique : (public message hblock gblock cipher key : List ℕ) → Seal set public message hblock gblock cipher key r x u
+  pub seal_unique : (public message hblock gblock cipher key : List ℕ) → Seal set public message hblock gblock cipher key r x u
       → Seal set public message hblock gblock cipher key s y v → (r ≡ s) × (x ≡ y) × (u ≡ v)
   unfolding Seal
-  seal-unique public message hblock gblock cipher key p q =
+  seal_unique public message hblock gblock cipher key p q =
       (one_answer p q, p.content.0 ∙ sym q.content.0, p.content.1 ∙ sym q.content.1)
 
-  pub open-one-unique : (private cipher marks image : List ℕ) → OpenOne set private cipher marks image r x u
+  pub open_one_unique : (private cipher marks image : List ℕ) → OpenOne set private cipher marks image r x u
       → OpenOne set private cipher marks image s y v → (r ≡ s) × (x ≡ y) × (u ≡ v)
   unfolding OpenOne
-  open-one-unique private cipher marks image p q =
+  open_one_unique private cipher marks image p q =
       (one_answer p q, p.content.0 ∙ sym q.content.0, p.content.1 ∙ sym q.content.1)
 
 -- ---- the two that hand back a half: its bytes, and the place at which they stand
 
 module _ (set : ℕ) (key : List ℕ) (place : ℕ × ℕ) {x y : List ℕ} {i j : ℕ × ℕ} where
-  pub f-half-unique : FHalf set key place x i → FHalf set key place y j → (x ≡ y) × (i ≡ j)
-  f-half-unique p q = (p.content ∙ sym q.content, p.lent ∙ sym q.lent)
+  pub f_half_unique : FHalf set key place x i → FHalf set key place y j → (x ≡ y) × (i ≡ j)
+  f_half_unique p q = (p.content ∙ sym q.content, p.lent ∙ sym q.lent)
 
-  pub h-half-unique : HHalf set key place x i → HHalf set key place y j → (x ≡ y) × (i ≡ j)
-  h-half-unique p q = (p.content ∙ sym q.content, p.lent ∙ sym q.lent)
+  pub h_half_unique : HHalf set key place x i → HHalf set key place y j → (x ≡ y) × (i ≡ j)
+  h_half_unique p q = (p.content ∙ sym q.content, p.lent ∙ sym q.lent)
 
 -- ringline's function: the bytes that it prints, and the buffer that they stand in
-pub line-unique : (input before : List ℕ) {r s : ℕ} {x y : List ℕ} → Line input before r x → Line input before s y → (r ≡ s) × (x ≡ y)
+pub line_unique : (input before : List ℕ) {r s : ℕ} {x y : List ℕ} → Line input before r x → Line input before s y → (r ≡ s) × (x ≡ y)
 unfolding Line
-line-unique input before p q = (p.end ∙ sym q.end, p.content ∙ sym q.content)
+line_unique input before p q = (p.end ∙ sym q.end, p.content ∙ sym q.content)

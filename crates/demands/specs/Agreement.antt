@@ -4,8 +4,8 @@ use Rattle.std.specs.Prelude.{List, ◌≡◌, ℕ, ◌/◌, ℤ}
 use Rattle.encoding.specs.Encoding.{encoded}
 use Rattle.answers.specs.declared.Answer.{Answer}
 use Rattle.answers.specs.Answers.{number_of}
-use Rattle.stages.specs.Making.{smallF, smallG}
-use Rattle.stages.specs.Sealing.{smallR}
+use Rattle.stages.specs.Making.{small_f, small_g}
+use Rattle.stages.specs.Sealing.{small_r}
 use Rattle.agreement.specs.Opened.{opened}
 use Rattle.calls_make.specs.Make.{Make}
 use Rattle.calls_seal.specs.Seal.{Seal}
@@ -27,5 +27,5 @@ pub record Sealed (set : ℕ) (public message hblock gblock cipher key : List �
   pub done : number_of answer ≡ 0
 
 -- "Work out 3(g'r + mf') + m over whole numbers, folded but never reduced by 3457."
-unfoldable pub workedOut : (set : ℕ) (seed message hblock gblock : List ℕ) → List ℤ
-workedOut set seed message hblock gblock = opened (set / 2) (smallF seed) (smallG seed) (smallR hblock) (encoded message gblock)
+unfoldable pub worked_out : (set : ℕ) (seed message hblock gblock : List ℕ) → List ℤ
+worked_out set seed message hblock gblock = opened (set / 2) (small_f seed) (small_g seed) (small_r hblock) (encoded message gblock)

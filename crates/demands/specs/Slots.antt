@@ -2,7 +2,7 @@
 -- Assumes nothing: this is a definition.
 use Rattle.std.specs.Prelude.{List, [], ℕ}
 use Rattle.algebra.specs.SlotBySlot.{times}
-use Rattle.answers.specs.Sets.{setOf, forSet}
+use Rattle.answers.specs.Sets.{set_of, for_set}
 
-unfoldable pub timesOf : ℕ → List ℕ → List ℕ → List ℕ
-timesOf set A B = forSet (setOf set) [] (λ s. times s.slots A B)
+unfoldable pub times_of : ℕ → List ℕ → List ℕ → List ℕ
+times_of set A B = for_set (set_of set) [] (λ s. times s.slots A B)

@@ -2,14 +2,14 @@
 ghost use Rattle.std.specs.Prelude.{map, ◌≡◌, ◌+◌, ◌*◌, ◌%◌, ◌<◌, length, get_or};
 ghost use Rattle.lists.specs.Tab.{tab};
 ghost use Rattle.lists.specs.Below.{Below};
-ghost use Rattle.residue.specs.Signed.{residueOf};
-ghost use Rattle.marks.specs.Marks.{ofMark};
-ghost use Rattle.encoding.specs.Encoding.{encodeBit, decodeBit, encoded, decoded};
+ghost use Rattle.residue.specs.Signed.{residue_of};
+ghost use Rattle.marks.specs.Marks.{of_mark};
+ghost use Rattle.encoding.specs.Encoding.{encode_bit, decode_bit, encoded, decoded};
 
 // (message XOR first) - second, of three bits.
 fn encode_bit(message: u8, first: u8, second: u8) -> u16
     requires { (message < 2) × (first < 2) × (second < 2) }
-    ensures { result ≡ residueOf (encodeBit message first second) }
+    ensures { result ≡ residue_of (encode_bit message first second) }
 {
     small::difference(message ^ first, second)
 }
@@ -17,7 +17,7 @@ fn encode_bit(message: u8, first: u8, second: u8) -> u16
 // ((coefficient + second) mod 2) XOR first, where a mark stands for the coefficient: 1 and 2 are odd.
 fn decode_bit(mark: u8, first: u8, second: u8) -> u8
     requires { (mark < 3) × (first < 2) × (second < 2) }
-    ensures { result ≡ decodeBit (ofMark mark) first second }
+    ensures { result ≡ decode_bit (of_mark mark) first second }
 {
     ((mark + mark / 2 + second) % 2) ^ first
 }
@@ -25,7 +25,7 @@ fn decode_bit(mark: u8, first: u8, second: u8) -> u8
 // The coefficients that the bits of a message and of two halves encode.
 fn encode_bits(bits: &[u8], halves: &[u8], coefficients: &mut [u16])
     requires { (length bits.now ≡ length coefficients.old) × (length halves.now ≡ length coefficients.old + length coefficients.old) × Below 2 bits.now × Below 2 halves.now }
-    ensures { coefficients.new ≡ tab (length coefficients.old) (λ i. residueOf (encodeBit (get_or bits.now i 0) (get_or halves.now i 0) (get_or halves.now (length coefficients.old + i) 0))) }
+    ensures { coefficients.new ≡ tab (length coefficients.old) (λ i. residue_of (encode_bit (get_or bits.now i 0) (get_or halves.now i 0) (get_or halves.now (length coefficients.old + i) 0))) }
 {
     let n = coefficients.len();
     for i in 0..n {
@@ -43,7 +43,7 @@ pub fn encode(
 )
     requires message_len { (length message.now % 4 ≡ 0) × (length block.now ≡ 2 * length message.now) }
     requires bits_len { (length bits.old ≡ 8 * length message.now) × (length halves.old ≡ 16 * length message.now) × (length coefficients.old ≡ 8 * length message.now) }
-    ensures { coefficients.new ≡ map residueOf (encoded message.now block.now) }
+    ensures { coefficients.new ≡ map residue_of (encoded message.now block.now) }
 {
     bits::list(message, bits);
     small::list_halves(block, halves);
@@ -53,7 +53,7 @@ pub fn encode(
 // The message bits that marks and the bits of two halves decode to.
 fn decode_bits(marks: &[u8], halves: &[u8], bits: &mut [u8])
     requires { (length marks.now ≡ length bits.old) × (length halves.now ≡ length bits.old + length bits.old) × Below 3 marks.now × Below 2 halves.now }
-    ensures { bits.new ≡ tab (length bits.old) (λ i. decodeBit (ofMark (get_or marks.now i 0)) (get_or halves.now i 0) (get_or halves.now (length bits.old + i) 0)) }
+    ensures { bits.new ≡ tab (length bits.old) (λ i. decode_bit (of_mark (get_or marks.now i 0)) (get_or halves.now i 0) (get_or halves.now (length bits.old + i) 0)) }
 {
     let n = bits.len();
     for i in 0..n {
@@ -65,7 +65,7 @@ fn decode_bits(marks: &[u8], halves: &[u8], bits: &mut [u8])
 pub fn decode(marks: &[u8], block: &[u8], bits: &mut [u8], halves: &mut [u8], message: &mut [u8])
     requires message_len { (length message.old % 4 ≡ 0) × (length block.now ≡ 2 * length message.old) × (length marks.now ≡ 8 * length message.old) × Below 3 marks.now }
     requires bits_len { (length bits.old ≡ 8 * length message.old) × (length halves.old ≡ 16 * length message.old) }
-    ensures { message.new ≡ decoded (map ofMark marks.now) block.now }
+    ensures { message.new ≡ decoded (map of_mark marks.now) block.now }
 {
     small::list_halves(block, halves);
     decode_bits(marks, halves, bits);

@@ -2,7 +2,7 @@
 -- Assumes nothing: these are definitions.
 use Rattle.std.specs.Prelude.{Bool, ◌&&◌, cond, List, ℕ, eqb, ltb, length, drop}
 use Rattle.std.proofs.Math.Option.{Option, none}
-use Rattle.lists.specs.First.{firstWhere}
+use Rattle.lists.specs.First.{first_where}
 use Rattle.text.specs.declared.Number.{Number}
 use Rattle.text.specs.declared.Number.TheVariants.{Is, NotNumber}
 use Rattle.text.specs.Lines.{lf, up_to, begins}
@@ -12,21 +12,21 @@ use Rattle.lines.specs.Names.{set_name}
 
 -- an LF ends the first line, and it begins with the name
 unfoldable pub is_line : List ℕ → List ℕ → Bool
-is_line name s = ltb (firstWhere (eqb lf) s) (length s) && begins name (up_to lf s)
+is_line name s = ltb (first_where (eqb lf) s) (length s) && begins name (up_to lf s)
 
 -- what stands after the name
 unfoldable pub body : List ℕ → List ℕ → List ℕ
 body name s = drop (length name) (up_to lf s)
 
 -- "The set is a decimal of 1 to 5 digits"
-unfoldable pub setIn : List ℕ → Number
-setIn s = cond (is_line set_name s) (number (body set_name s)) NotNumber
+unfoldable pub set_in : List ℕ → Number
+set_in s = cond (is_line set_name s) (number (body set_name s)) NotNumber
 
 -- the polynomial that the line gives, of n coefficients
-unfoldable pub polynomialIn : List ℕ → ℕ → List ℕ → Option (List ℕ)
-polynomialIn name n s = cond (is_line name s) (polynomial n (body name s)) none
+unfoldable pub polynomial_in : List ℕ → ℕ → List ℕ → Option (List ℕ)
+polynomial_in name n s = cond (is_line name s) (polynomial n (body name s)) none
 
 -- what is so of the number, or what stands in for it
-unfoldable pub forNumber : {A : Type 0} → Number → A → (ℕ → A) → A
-forNumber NotNumber other f = other
-forNumber (Is v) other f = f v
+unfoldable pub for_number : {A : Type 0} → Number → A → (ℕ → A) → A
+for_number NotNumber other f = other
+for_number (Is v) other f = f v

@@ -1,7 +1,7 @@
 // What the first line of a text says.
 ghost use Rattle.std.specs.Prelude.{◌≡◌, true, length};
 ghost use Rattle.text.specs.Polynomials.{Reads};
-ghost use Rattle.lines.specs.Input.{is_line, body, setIn, polynomialIn};
+ghost use Rattle.lines.specs.Input.{is_line, body, set_in, polynomial_in};
 
 use text::Number;
 
@@ -25,7 +25,7 @@ fn body<'a>(name: &[u8], s: &'a [u8]) -> &'a [u8]
 }
 
 pub fn set_in(s: &[u8]) -> Number
-    ensures { result ≡ setIn s.now }
+    ensures { result ≡ set_in s.now }
 {
     let name = b"set=";
     if is_line(name, s) {
@@ -37,7 +37,7 @@ pub fn set_in(s: &[u8]) -> Number
 
 // The list holds the polynomial where there is one.
 pub fn polynomial_in(name: &[u8], s: &[u8], list: &mut [u16]) -> bool
-    ensures { Reads result list.new (polynomialIn name.now (length list.old) s.now) }
+    ensures { Reads result list.new (polynomial_in name.now (length list.old) s.now) }
 {
     if is_line(name, s) {
         text::read::polynomial(body(name, s), list)

@@ -22,10 +22,10 @@ both_true true b e = (refl, e)
 both_true false b e = absurd (false≢true e)
 
 -- the test's fact at each of the numbers
-pub at-below : (p : ℕ → Bool) (n : ℕ) → T (below p n) → (k : ℕ) → k < n → T (p k)
+pub at_below : (p : ℕ → Bool) (n : ℕ) → T (below p n) → (k : ℕ) → k < n → T (p k)
 unfolding below
-at-below p zero t k h = absurd (omega arith)
-at-below p (suc n) t k h = by (ℕ_discrete k n) (λ l. at-below p n (and_right (p n) (below p n) t) k l)
+at_below p zero t k h = absurd (omega arith)
+at_below p (suc n) t k h = by (ℕ_discrete k n) (λ l. at_below p n (and_right (p n) (below p n) t) k l)
   where
     by : Dec (k ≡ n) → (k < n → T (p k)) → T (p k)
     by (yes e) r = subst (λ i. T (p i)) (sym e) (and_left (p n) (below p n) t)

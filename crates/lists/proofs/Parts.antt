@@ -16,7 +16,7 @@ module _ {A : Type 0} where
       ∙ take_at (take a l ++ part) (drop e l) e (omega (arith, length-append (take a l) part, length-take-le a l (omega arith)))
 
   -- the first h places were lent and came back as p, then the others and came back as q
-  pub both-parts : (h : ℕ) (d p q : List A) → length p ≡ h → put_mid h (length (p ++ drop h d) - h) (p ++ drop h d) q ≡ p ++ q
-  both-parts h d p q lp =
+  pub both_parts : (h : ℕ) (d p q : List A) → length p ≡ h → put_mid h (length (p ++ drop h d) - h) (p ++ drop h d) q ≡ p ++ q
+  both_parts h d p q lp =
       let rest : length (p ++ drop h d) - h ≡ length (drop h d) = omega (arith, length-append p (drop h d)) in
       rw (rest, take_at p (drop h d) h lp, drop_at p (drop h d) h lp, drop-length (drop h d)) (ap (λ l. p ++ l) (append-nil q))

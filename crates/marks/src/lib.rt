@@ -1,17 +1,17 @@
 // Marks: a byte for each coefficient of a small polynomial, 0, 1, or 2 for -1.
 ghost use Rattle.std.specs.Prelude.{◌≡◌, map, ◌<◌, length};
-ghost use Rattle.lists.specs.First.{firstWhere};
+ghost use Rattle.lists.specs.First.{first_where};
 ghost use Rattle.lists.specs.Below.{Below};
 ghost use Rattle.residue.specs.Residues.{Residues};
-ghost use Rattle.residue.specs.Signed.{centredByThree, residueOf};
-ghost use Rattle.marks.specs.Marks.{Small, markOf, ofMark, noMark};
+ghost use Rattle.residue.specs.Signed.{centred_by_three, residue_of};
+ghost use Rattle.marks.specs.Marks.{Small, mark_of, of_mark, no_mark};
 
 use residue::Residue;
 
 // The mark of -1, 0 or 1.
 fn mark_of(value: i32) -> u8
     requires { Small value }
-    ensures { result ≡ markOf value }
+    ensures { result ≡ mark_of value }
 {
     if value == 0 {
         0
@@ -25,7 +25,7 @@ fn mark_of(value: i32) -> u8
 // The residue of what a mark stands for.
 fn residue_of(mark: u8) -> Residue
     requires { mark < 3 }
-    ensures { result.0 ≡ residueOf (ofMark mark) }
+    ensures { result.0 ≡ residue_of (of_mark mark) }
 {
     if mark == 0 {
         Residue::ZERO
@@ -39,7 +39,7 @@ fn residue_of(mark: u8) -> Residue
 // The marks of residues, each centred first and then taken by 3.
 pub fn mark(list: &[u16], marks: &mut [u8])
     requires { Residues (length marks.old) list.now }
-    ensures { marks.new ≡ map (λ a. markOf (centredByThree a)) list.now }
+    ensures { marks.new ≡ map (λ a. mark_of (centred_by_three a)) list.now }
 {
     let n = marks.len();
     for i in 0..n {
@@ -50,7 +50,7 @@ pub fn mark(list: &[u16], marks: &mut [u8])
 // The residues of what marks stand for.
 pub fn unmark(marks: &[u8], list: &mut [u16])
     requires { (length marks.now ≡ length list.old) × Below 3 marks.now }
-    ensures { list.new ≡ map (λ m. residueOf (ofMark m)) marks.now }
+    ensures { list.new ≡ map (λ m. residue_of (of_mark m)) marks.now }
 {
     let n = list.len();
     for i in 0..n {
@@ -60,7 +60,7 @@ pub fn unmark(marks: &[u8], list: &mut [u16])
 
 // The first byte that is no mark; the length where each is one.
 pub fn first_bad(marks: &[u8]) -> usize
-    ensures { result ≡ firstWhere noMark marks.now }
+    ensures { result ≡ first_where no_mark marks.now }
 {
     let mut i = 0;
     while i < marks.len() {

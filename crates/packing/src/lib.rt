@@ -1,6 +1,6 @@
 // Packing of residues into bytes, and back: loops over the pairs, each number and each byte read once.
 ghost use Rattle.std.specs.Prelude.{◌≡◌, ◌*◌, ◌/◌, ◌%◌, length};
-ghost use Rattle.residue.specs.Large.{firstLarge};
+ghost use Rattle.residue.specs.Large.{first_large};
 ghost use Rattle.residue.specs.Residues.{Residues};
 ghost use Rattle.packing.specs.Packing.{packed, groups};
 
@@ -41,7 +41,7 @@ pub fn unpack(bytes: &[u8], list: &mut [u16]) -> usize
     requires list_len { length list.old % 2 ≡ 0 }
     requires bytes_len { length bytes.now ≡ 3 * (length list.old / 2) }
     ensures list_after { list.new ≡ groups bytes.now }
-    ensures value { result ≡ firstLarge (groups bytes.now) }
+    ensures value { result ≡ first_large (groups bytes.now) }
 {
     unpack_pairs(bytes, list);
     residue::scan::first_large(list)

@@ -10,7 +10,7 @@ use lib.Dec.{T, eqb, eqb→eq}
 use lib.ListN.{length, get_or}
 use Rattle.residue.specs.Field.{one, generator, mulq, powq}
 use Rattle.lists.proofs.Every.{and_left, and_right}
-use Rattle.residue.proofs.PowerLaws.{powq-zero, powq-suc}
+use Rattle.residue.proofs.PowerLaws.{powq_zero, powq_suc}
 use Rattle.powers.specs.Powers.{Powers}
 
 -- the test: the list starts with x, and each next entry is g times the one before
@@ -30,8 +30,8 @@ chain_next g x (y ∷ ys) t zero h = chain_first g (mulq g y) ys (and_right (eqb
 chain_next g x (y ∷ ys) t (suc i) h = chain_next g (mulq g y) ys (and_right (eqb y x) (chain g (mulq g y) ys) t) i (omega arith)
 
 -- a list of 3,456 entries that passes the test has the rule
-pub powers-of : (g x : ℕ) (l : List ℕ) → length l ≡ 3456 → chain g x l ≡ true → Powers g x l
-powers-of g x l e t =
+pub powers_of : (g x : ℕ) (l : List ℕ) → length l ≡ 3456 → chain g x l ≡ true → Powers g x l
+powers_of g x l e t =
     record {
       long = e;
       first = chain_first g x l passed (omega (arith, e));
@@ -42,8 +42,8 @@ powers-of g x l e t =
     passed = subst T (sym t) tt
 
 -- entry i is 7^i
-pub powers-at : {l : List ℕ} → Powers generator one l → (i : ℕ) → i < 3456 → get_or l i 0 ≡ powq generator i
-powers-at r zero h = r.first ∙ sym (powq-zero generator)
-powers-at {l} r (suc i) h =
-    ap (λ k. get_or l k 0) (sym (add-one i)) ∙ r.next i (omega arith) ∙ ap (mulq generator) (powers-at r i (omega arith))
-    ∙ sym (powq-suc generator i)
+pub powers_at : {l : List ℕ} → Powers generator one l → (i : ℕ) → i < 3456 → get_or l i 0 ≡ powq generator i
+powers_at r zero h = r.first ∙ sym (powq_zero generator)
+powers_at {l} r (suc i) h =
+    ap (λ k. get_or l k 0) (sym (add-one i)) ∙ r.next i (omega arith) ∙ ap (mulq generator) (powers_at r i (omega arith))
+    ∙ sym (powq_suc generator i)

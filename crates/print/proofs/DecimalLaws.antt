@@ -27,25 +27,25 @@ pub record Digit (c : ℕ) : Type 0 where
   pub high : c ≤ 57
 
 -- each of them is one
-digits-digits : (k v : ℕ) → Each Digit (digits k v)
+digits_digits : (k v : ℕ) → Each Digit (digits k v)
 unfolding digits
-digits-digits zero v = none
-digits-digits (suc k) v = each_append (digits-digits k (v / 10)) (more (record { low = omega arith; high = omega arith }) none)
+digits_digits zero v = none
+digits_digits (suc k) v = each_append (digits_digits k (v / 10)) (more (record { low = omega arith; high = omega arith }) none)
 
 -- k + 1 digits of which the first is `0` are those of a number that k digits are enough for
-digits-unpadded : (k v : ℕ) → v < 10 ^ suc k → get_or (digits (suc k) v) 0 0 ≡ 48 → v < 10 ^ k
+digits_unpadded : (k v : ℕ) → v < 10 ^ suc k → get_or (digits (suc k) v) 0 0 ≡ 48 → v < 10 ^ k
 unfolding digits
-digits-unpadded zero v h e = omega arith
-digits-unpadded (suc k) v h e =
+digits_unpadded zero v h e = omega arith
+digits_unpadded (suc k) v h e =
     let first = get_or-append (digits (suc k) (v / 10)) ((48 + v % 10) ∷ []) 0 0 (omega (arith, length_digits (suc k) (v / 10))) in
     let shorter : v / 10 < 10 ^ suc k = omega (arith, pow-succ' 10 (suc k)) in
-    omega (arith, pow-succ' 10 k, digits-unpadded k (v / 10) shorter (sym first ∙ e))
+    omega (arith, pow-succ' 10 k, digits_unpadded k (v / 10) shorter (sym first ∙ e))
 
 -- ---- all digits
 
 -- what holds of a where v is below m, and of b from m on, holds of the choice by that test
-by-bound : (P : ℕ → Type 0) (v m : ℕ) {a b : ℕ} → (v < m → P a) → (m ≤ v → P b) → P (cond (ltb v m) a b)
-by-bound P v m {a} {b} x y = by (ltb v m) refl
+by_bound : (P : ℕ → Type 0) (v m : ℕ) {a b : ℕ} → (v < m → P a) → (m ≤ v → P b) → P (cond (ltb v m) a b)
+by_bound P v m {a} {b} x y = by (ltb v m) refl
   where
     by : (t : Bool) → ltb v m ≡ t → P (cond t a b)
     by true e = x (ltb-true v m e)
@@ -59,9 +59,9 @@ Wide v w = (1 ≤ w) × (w ≤ 5) × (v < 10 ^ w) × (10 ^ w ≤ 10 * max 1 v)
 wide : (v : ℕ) → v < 100000 → Wide v (width v)
 unfolding width
 wide v h =
-    by-bound (Wide v) v 10 (λ a. omega arith)
-    (λ b. by-bound (Wide v) v 100 (λ a. omega arith)
-    (λ b. by-bound (Wide v) v 1000 (λ a. omega arith) (λ b. by-bound (Wide v) v 10000 (λ a. omega arith) (λ b. omega arith))))
+    by_bound (Wide v) v 10 (λ a. omega arith)
+    (λ b. by_bound (Wide v) v 100 (λ a. omega arith)
+    (λ b. by_bound (Wide v) v 1000 (λ a. omega arith) (λ b. by_bound (Wide v) v 10000 (λ a. omega arith) (λ b. omega arith))))
 
 -- the width is at most four below 10,000
 width_four : (v : ℕ) → v < 10000 → width v ≤ 4
@@ -72,32 +72,32 @@ width_four v h = by (width v) (wide v (omega arith)) (ℕ_discrete (width v) 5)
     by w p (no e) = omega arith
 
 -- as many digits as the width are enough
-pub below-width : (v : ℕ) → v < 100000 → v < 10 ^ width v
-below-width v h = (wide v h).2
+pub below_width : (v : ℕ) → v < 100000 → v < 10 ^ width v
+below_width v h = (wide v h).2
 
 -- a printed number is as long as the width says
-pub length-decimal : (v : ℕ) → length (decimal v) ≡ width v
+pub length_decimal : (v : ℕ) → length (decimal v) ≡ width v
 unfolding decimal
-length-decimal v = length_digits (width v) v
+length_decimal v = length_digits (width v) v
 
 -- it has one to five digits
-pub decimal-length : (v : ℕ) → v < 100000 → (1 ≤ length (decimal v)) × (length (decimal v) ≤ 5)
-decimal-length v h = omega (arith, wide v h, length-decimal v)
+pub decimal_length : (v : ℕ) → v < 100000 → (1 ≤ length (decimal v)) × (length (decimal v) ≤ 5)
+decimal_length v h = omega (arith, wide v h, length_decimal v)
 
 -- and below 10,000 at most four
-pub decimal-four : (v : ℕ) → v < 10000 → length (decimal v) ≤ 4
-decimal-four v h = omega (arith, width_four v h, length-decimal v)
+pub decimal_four : (v : ℕ) → v < 10000 → length (decimal v) ≤ 4
+decimal_four v h = omega (arith, width_four v h, length_decimal v)
 
 -- its bytes are digits
-pub decimal-digits : (v : ℕ) → Each Digit (decimal v)
+pub decimal_digits : (v : ℕ) → Each Digit (decimal v)
 unfolding decimal
-decimal-digits v = digits-digits (width v) v
+decimal_digits v = digits_digits (width v) v
 
 -- "no leading zeros": only 0 begins with `0`
-pub decimal-unpadded : (v : ℕ) → v < 100000 → get_or (decimal v) 0 0 ≡ 48 → v ≡ 0
+pub decimal_unpadded : (v : ℕ) → v < 100000 → get_or (decimal v) 0 0 ≡ 48 → v ≡ 0
 unfolding decimal
-decimal-unpadded v h e = by (width v) (wide v h) e
+decimal_unpadded v h e = by (width v) (wide v h) e
   where
     by : (w : ℕ) → Wide v w → get_or (digits w v) 0 0 ≡ 48 → v ≡ 0
     by zero p e = absurd (omega arith)
-    by (suc k) p e = omega (arith, pow-succ' 10 k, digits-unpadded k v p.2 e)
+    by (suc k) p e = omega (arith, pow-succ' 10 k, digits_unpadded k v p.2 e)

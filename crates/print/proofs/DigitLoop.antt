@@ -9,7 +9,7 @@ use lib.Seq.{drop_at}
 use Rattle.print.specs.Printing.{digits}
 use Rattle.print.specs.Write.{write}
 use Rattle.print.proofs.DecimalLaws.{length_digits}
-use Rattle.print.proofs.WriteLaws.{write-nothing, write-front}
+use Rattle.print.proofs.WriteLaws.{write_nothing, write_front}
 
 -- ---- all digits d, cut before the place k + 1: the first k + 1 are those of the rest
 
@@ -20,12 +20,12 @@ module _ (d : List ℕ) (k rest : ℕ) (cut : d ≡ digits (suc k) rest ++ drop 
   whole = cut ∙ append_assoc (digits k (rest / 10)) ((48 + rest % 10) ∷ []) (drop (suc k) d)
 
   -- the digit at k is the last one of the rest
-  last-digit : drop k d ≡ (48 + rest % 10) ∷ drop (suc k) d
-  last-digit = ap (drop k) whole ∙ drop_at (digits k (rest / 10)) _ k (length_digits k (rest / 10))
+  last_digit : drop k d ≡ (48 + rest % 10) ∷ drop (suc k) d
+  last_digit = ap (drop k) whole ∙ drop_at (digits k (rest / 10)) _ k (length_digits k (rest / 10))
 
   -- and those before it are the digits of a tenth of it
   cut_again : d ≡ digits k (rest / 10) ++ drop k d
-  cut_again = whole ∙ ap (λ s. digits k (rest / 10) ++ s) (sym last-digit)
+  cut_again = whole ∙ ap (λ s. digits k (rest / 10) ++ s) (sym last_digit)
 
 -- ---- the loop
 
@@ -36,10 +36,10 @@ pub record Printed (d : List ℕ) (at left rest : ℕ) (b l : List ℕ) : Type 0
   pub long : length l ≡ length b
 
 -- at the start no digit stands there
-pub printed-start : (k v at : ℕ) (b : List ℕ) → Printed (digits k v) at k v b b
-printed-start k v at b = record {
+pub printed_start : (k v at : ℕ) (b : List ℕ) → Printed (digits k v) at k v b b
+printed_start k v at b = record {
   cut = sym (ap (λ s. digits k v ++ s) none_left ∙ append-nil (digits k v));
-  done = sym (ap (write b (at + k)) none_left ∙ write-nothing b (at + k));
+  done = sym (ap (write b (at + k)) none_left ∙ write_nothing b (at + k));
   long = refl;
 }
   where
@@ -47,12 +47,12 @@ printed-start k v at b = record {
     none_left = drop_of_length-le (digits k v) {i = k} (omega (arith, length_digits k v))
 
 -- a turn stores the last digit of the rest
-pub printed-turn : {d : List ℕ} {at left rest : ℕ} {b l : List ℕ} → Printed d at left rest b l → 0 < left → at + left ≤ length b
+pub printed_turn : {d : List ℕ} {at left rest : ℕ} {b l : List ℕ} → Printed d at left rest b l → 0 < left → at + left ≤ length b
     → Printed d at (left - 1) (rest / 10) b (set l (at + (left - 1)) (48 + rest % 10))
-printed-turn {d} {at} {left} {rest} {b} {l} p h room = record {
+printed_turn {d} {at} {left} {rest} {b} {l} p h room = record {
   cut = cut_again d k rest cut;
   done = ap (λ x. set x (at + k) c) (p.done ∙ ap₂ (λ i j. write b i (drop j d)) place back)
-      ∙ write-front b (at + k) c (drop (suc k) d) (omega arith) ∙ ap (write b (at + k)) (sym (last-digit d k rest cut));
+      ∙ write_front b (at + k) c (drop (suc k) d) (omega arith) ∙ ap (write b (at + k)) (sym (last_digit d k rest cut));
   long = length-set l (at + k) c ∙ p.long;
 }
   where
@@ -72,5 +72,5 @@ printed-turn {d} {at} {left} {rest} {b} {l} p h room = record {
     cut = subst (λ m. d ≡ digits m rest ++ drop m d) back p.cut
 
 -- at the end all digits stand there
-pub printed-end : {d : List ℕ} {at left rest : ℕ} {b l : List ℕ} → Printed d at left rest b l → left ≡ 0 → l ≡ write b at d
-printed-end {d} {at} {left} {rest} {b} {l} p e = p.done ∙ ap₂ (λ i j. write b i (drop j d)) (omega arith) e
+pub printed_end : {d : List ℕ} {at left rest : ℕ} {b l : List ℕ} → Printed d at left rest b l → left ≡ 0 → l ≡ write b at d
+printed_end {d} {at} {left} {rest} {b} {l} p e = p.done ∙ ap₂ (λ i j. write b i (drop j d)) (omega arith) e

@@ -16,31 +16,31 @@ use Rattle.residue.specs.Residues.{Residues}
 use Rattle.text.specs.declared.Number.TheVariants.{Is}
 use Rattle.text.specs.declared.Term.TheVariants.{Of}
 use Rattle.text.specs.Numerals.{number}
-use Rattle.text.specs.Terms.{termOf, term, allowed, terms}
+use Rattle.text.specs.Terms.{term_of, term, allowed, terms}
 use Rattle.text.specs.Polynomials.{zeros, polynomial}
 use Rattle.text.proofs.NumeralLaws.{number_is}
-use Rattle.text.proofs.TermLaws.{terms-more}
-use Rattle.print.specs.Printing.{decimal, printedTerm, printedTerms, joined, printedPolynomial}
+use Rattle.text.proofs.TermLaws.{terms_more}
+use Rattle.print.specs.Printing.{decimal, printed_term, printed_terms, joined, printed_polynomial}
 use Rattle.print.proofs.Each.{Each, more}
-use Rattle.print.proofs.JoinedLaws.{joined-first}
-use Rattle.print.proofs.PrintingLaws.{terms-some}
-use Rattle.print.proofs.BackLaws.{spelled-decimal, decimal-pass, Without, split-joined, terms-no-comma, index_back, value-back}
+use Rattle.print.proofs.JoinedLaws.{joined_first}
+use Rattle.print.proofs.PrintingLaws.{terms_some}
+use Rattle.print.proofs.BackLaws.{spelled_decimal, decimal_pass, Without, split_joined, terms_no_comma, index_back, value_back}
 
 -- ---- numbers and terms
 
 -- parsing a printed number gives it back
-pub number-printed : (v : ℕ) → v < 100000 → number (decimal v) ≡ Is v
-number-printed v h = number_is (decimal v) (decimal-pass v h) ∙ ap Is (spelled-decimal v h)
+pub number_printed : (v : ℕ) → v < 100000 → number (decimal v) ≡ Is v
+number_printed v h = number_is (decimal v) (decimal_pass v h) ∙ ap Is (spelled_decimal v h)
 
 -- parsing a printed term gives its index and its value back
-pub term-printed : (i v : ℕ) → i < 100000 → v < 100000 → term (printedTerm i v) ≡ Of i v
-unfolding term termOf
-term-printed i v h k = ap₂ termOf (ap number (index_back i v) ∙ number-printed i h) (ap number (value-back i v) ∙ number-printed v k)
+pub term_printed : (i v : ℕ) → i < 100000 → v < 100000 → term (printed_term i v) ≡ Of i v
+unfolding term term_of
+term_printed i v h k = ap₂ term_of (ap number (index_back i v) ∙ number_printed i h) (ap number (value_back i v) ∙ number_printed v k)
 
 -- "indices strictly rising, below n, values 1..3456": such a term passes
-allowed-pass : (n low i v : ℕ) → low ≤ i → i < n → 1 ≤ v → v < q → allowed n low i v ≡ true
+allowed_pass : (n low i v : ℕ) → low ≤ i → i < n → 1 ≤ v → v < q → allowed n low i v ≡ true
 unfolding allowed
-allowed-pass n low i v rising below nonzero residue =
+allowed_pass n low i v rising below nonzero residue =
     simp (le-leb low i rising, lt-ltb i n below, le-leb 1 v nonzero, le-leb v 3456 (omega arith))
 
 -- ---- the terms of a list
@@ -64,41 +64,41 @@ at_next {v = v} {l = l} p low' h = record {
 }
 
 -- the term of a nonzero number is stored in place of the 0 at i
-terms-store : {n low i v : ℕ} {l vs : List ℕ} → At n low i l (v ∷ vs) → 1 ≤ v → (zs : List ℕ) (ts : List (List ℕ))
-    → terms n low (l ++ (0 ∷ zs)) (printedTerm i v ∷ ts) ≡ terms n (suc i) (l ++ (v ∷ zs)) ts
-terms-store {n} {low} {i} {v} {l} p nonzero zs ts =
+terms_store : {n low i v : ℕ} {l vs : List ℕ} → At n low i l (v ∷ vs) → 1 ≤ v → (zs : List ℕ) (ts : List (List ℕ))
+    → terms n low (l ++ (0 ∷ zs)) (printed_term i v ∷ ts) ≡ terms n (suc i) (l ++ (v ∷ zs)) ts
+terms_store {n} {low} {i} {v} {l} p nonzero zs ts =
     let residue : v < q = p.residues 0 (omega arith) in
-    terms-more n low (l ++ (0 ∷ zs)) (printedTerm i v) ts i v
-    (term-printed i v (omega arith) (omega arith))
-    (allowed-pass n low i v p.rising (omega arith) nonzero residue)
+    terms_more n low (l ++ (0 ∷ zs)) (printed_term i v) ts i v
+    (term_printed i v (omega arith) (omega arith))
+    (allowed_pass n low i v p.rising (omega arith) nonzero residue)
     ∙ ap (λ m. terms n (suc i) m ts) (set_at l 0 zs v i p.before)
 
 -- the terms of vs into l and then zeros: l and then vs
-terms-printed : {n low i : ℕ} {l : List ℕ} (vs : List ℕ) → At n low i l vs → terms n low (l ++ zeros (length vs)) (printedTerms i vs) ≡ some (l ++ vs)
-unfolding terms printedTerms zeros tab
-terms-printed [] p = refl
-terms-printed {low = low} (zero ∷ vs) p = simp append_snoc at (terms-printed vs (at_next p low (omega arith)))
-terms-printed {i = i} (suc v ∷ vs) p =
+terms_printed : {n low i : ℕ} {l : List ℕ} (vs : List ℕ) → At n low i l vs → terms n low (l ++ zeros (length vs)) (printed_terms i vs) ≡ some (l ++ vs)
+unfolding terms printed_terms zeros tab
+terms_printed [] p = refl
+terms_printed {low = low} (zero ∷ vs) p = simp append_snoc at (terms_printed vs (at_next p low (omega arith)))
+terms_printed {i = i} (suc v ∷ vs) p =
     rw (eqb-suc-zero v)
-    (terms-store p (omega arith) (zeros (length vs)) (printedTerms (suc i) vs)
-    ∙ simp append_snoc at (terms-printed vs (at_next p (suc i) (omega arith))))
+    (terms_store p (omega arith) (zeros (length vs)) (printed_terms (suc i) vs)
+    ∙ simp append_snoc at (terms_printed vs (at_next p (suc i) (omega arith))))
 
 -- ---- the polynomial
 
 -- pieces joined by commas are read as these pieces, where none is empty and none has a comma; "no terms means zero"
-polynomial-joined : (n : ℕ) (ts : List (List ℕ)) → Each (λ t. 0 < length t) ts → Each (Without 44) ts
+polynomial_joined : (n : ℕ) (ts : List (List ℕ)) → Each (λ t. 0 < length t) ts → Each (Without 44) ts
     → polynomial n (joined ts) ≡ terms n 0 (zeros n) ts
 unfolding polynomial joined terms
-polynomial-joined n [] filled no-comma = refl
-polynomial-joined n (t ∷ ts) (more h filled) no-comma =
-    rw (ne_eqb (length (joined (t ∷ ts))) 0 (λ e. omega (arith, joined-first t ts))) (ap (terms n 0 (zeros n)) (split-joined t ts no-comma))
+polynomial_joined n [] filled no_comma = refl
+polynomial_joined n (t ∷ ts) (more h filled) no_comma =
+    rw (ne_eqb (length (joined (t ∷ ts))) 0 (λ e. omega (arith, joined_first t ts))) (ap (terms n 0 (zeros n)) (split_joined t ts no_comma))
 
 -- parsing a printed polynomial gives it back
-pub polynomial-printed : (n : ℕ) (l : List ℕ) → n ≤ 100000 → Residues n l → polynomial n (printedPolynomial l) ≡ some l
-unfolding printedPolynomial
-polynomial-printed n l few r =
-    polynomial-joined n (printedTerms 0 l) (terms-some 0 l) (terms-no-comma 0 l)
-    ∙ subst (λ k. terms n 0 (zeros k) (printedTerms 0 l) ≡ some l) r.long (terms-printed l start)
+pub polynomial_printed : (n : ℕ) (l : List ℕ) → n ≤ 100000 → Residues n l → polynomial n (printed_polynomial l) ≡ some l
+unfolding printed_polynomial
+polynomial_printed n l few r =
+    polynomial_joined n (printed_terms 0 l) (terms_some 0 l) (terms_no_comma 0 l)
+    ∙ subst (λ k. terms n 0 (zeros k) (printed_terms 0 l) ≡ some l) r.long (terms_printed l start)
   where
     start : At n 0 0 [] l
     start = record {

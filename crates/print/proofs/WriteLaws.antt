@@ -13,18 +13,18 @@ use Rattle.print.specs.Write.{write, Writes}
 -- ---- the buffer
 
 -- no text changes nothing
-pub write-nothing : (l : List ℕ) (at : ℕ) → write l at [] ≡ l
+pub write_nothing : (l : List ℕ) (at : ℕ) → write l at [] ≡ l
 unfolding write
-write-nothing l at = ap (λ k. take at l ++ drop k l) (add-zero at) ∙ take-append-drop at l
+write_nothing l at = ap (λ k. take at l ++ drop k l) (add-zero at) ∙ take-append-drop at l
 
 -- what stands before the end of the text, once it is written
-head-long : (l : List ℕ) (at : ℕ) (s : List ℕ) → at ≤ length l → length (take at l ++ s) ≡ at + length s
-head-long l at s h = length-append (take at l) s ∙ ap (λ k. k + length s) (length-take-le at l h)
+head_long : (l : List ℕ) (at : ℕ) (s : List ℕ) → at ≤ length l → length (take at l ++ s) ≡ at + length s
+head_long l at s h = length-append (take at l) s ∙ ap (λ k. k + length s) (length-take-le at l h)
 
 -- a text after a text is the two as one
-pub write-write : (l : List ℕ) (at : ℕ) (s t : List ℕ) → at ≤ length l → write (write l at s) (at + length s) t ≡ write l at (s ++ t)
+pub write_write : (l : List ℕ) (at : ℕ) (s t : List ℕ) → at ≤ length l → write (write l at s) (at + length s) t ≡ write l at (s ++ t)
 unfolding write
-write-write l at s t h =
+write_write l at s t h =
     ap (λ b. take (at + length s) b ++ (t ++ drop (at + length s + length t) b)) (sym (append_assoc (take at l) s rest))
     ∙ ap₂ (λ a b. a ++ (t ++ b)) (take_at head rest _ long) behind
     ∙ append_assoc (take at l) s _
@@ -37,7 +37,7 @@ write-write l at s t h =
     rest = drop (at + length s) l
 
     long : length head ≡ at + length s
-    long = head-long l at s h
+    long = head_long l at s h
 
     both : at + length s + length t ≡ at + length (s ++ t)
     both = omega (arith, length-append s t)
@@ -55,9 +55,9 @@ unfolding write
 write_byte l at b h = set_split l at b h ∙ ap (λ k. take at l ++ (b ∷ drop k l)) (sym (add-one at))
 
 -- a store in front of a text
-pub write-front : (l : List ℕ) (at b : ℕ) (s : List ℕ) → at < length l → set (write l (at + 1) s) at b ≡ write l at (b ∷ s)
+pub write_front : (l : List ℕ) (at b : ℕ) (s : List ℕ) → at < length l → set (write l (at + 1) s) at b ≡ write l at (b ∷ s)
 unfolding write
-write-front l at b s h =
+write_front l at b s h =
     let more : take (at + 1) l ≡ take at l ++ (get_or l at 0 ∷ []) = ap (λ k. take k l) (add-one at) ∙ take-suc l at 0 h in
     let next : at + 1 + length s ≡ at + suc (length s) = omega arith in
     ap₂ (λ a k. set (a ++ (s ++ drop k l)) at b) more next
@@ -67,9 +67,9 @@ write-front l at b s h =
 -- ---- the contract
 
 -- two functions that print, one after the other
-pub then-writes : {l s m t n : List ℕ} {at r q : ℕ} → Writes l at s m r → Writes m r t n q → at ≤ length l → Writes l at (s ++ t) n q
-then-writes {l} {s} {m} {t} {n} {at} {r} {q} a b h = record {
-  content = b.content ∙ ap₂ (λ x k. write x k t) a.content a.end ∙ write-write l at s t h;
+pub then_writes : {l s m t n : List ℕ} {at r q : ℕ} → Writes l at s m r → Writes m r t n q → at ≤ length l → Writes l at (s ++ t) n q
+then_writes {l} {s} {m} {t} {n} {at} {r} {q} a b h = record {
+  content = b.content ∙ ap₂ (λ x k. write x k t) a.content a.end ∙ write_write l at s t h;
   end = omega (arith, a.end, b.end, length-append s t);
 }
 
@@ -79,14 +79,14 @@ writes_as {l} {s} {m} {t} {at} {r} {q} a e f = record { content = a.content ∙ 
 
 -- no text, and the same buffer
 pub writes_nothing : (l : List ℕ) (at : ℕ) → Writes l at [] l at
-writes_nothing l at = record { content = sym (write-nothing l at); end = sym (add-zero at) }
+writes_nothing l at = record { content = sym (write_nothing l at); end = sym (add-zero at) }
 
 -- a store
 pub writes_byte : (l : List ℕ) (at b : ℕ) → at < length l → Writes l at (b ∷ []) (set l at b) (at + 1)
 writes_byte l at b h = record { content = write_byte l at b h; end = refl }
 
 -- what is written lies in the buffer
-pub writes-within : (l : List ℕ) (at : ℕ) (s m : List ℕ) (r : ℕ) → at ≤ length l → Writes l at s m r → r ≤ length m
+pub writes_within : (l : List ℕ) (at : ℕ) (s m : List ℕ) (r : ℕ) → at ≤ length l → Writes l at s m r → r ≤ length m
 unfolding write
-writes-within l at s m r h w =
+writes_within l at s m r h w =
     omega (arith, w.end, ap length w.content, length-append (take at l) (s ++ drop (at + length s) l), length-append s (drop (at + length s) l), length-take-le at l h)

@@ -16,13 +16,13 @@ unfoldable pub decimal : ℕ → List ℕ
 decimal v = digits (width v) v
 
 -- "`index:value`"
-unfoldable pub printedTerm : ℕ → ℕ → List ℕ
-printedTerm i v = decimal i ++ (58 ∷ decimal v)
+unfoldable pub printed_term : ℕ → ℕ → List ℕ
+printed_term i v = decimal i ++ (58 ∷ decimal v)
 
 -- "its nonzero terms by rising index", of a list whose first place is index i
-unfoldable pub printedTerms : ℕ → List ℕ → List (List ℕ)
-printedTerms i [] = []
-printedTerms i (v ∷ vs) = cond (eqb v 0) (printedTerms (suc i) vs) (printedTerm i v ∷ printedTerms (suc i) vs)
+unfoldable pub printed_terms : ℕ → List ℕ → List (List ℕ)
+printed_terms i [] = []
+printed_terms i (v ∷ vs) = cond (eqb v 0) (printed_terms (suc i) vs) (printed_term i v ∷ printed_terms (suc i) vs)
 
 -- "joined by commas"
 unfoldable pub joined : List (List ℕ) → List ℕ
@@ -31,5 +31,5 @@ joined (t ∷ []) = t
 joined (t ∷ u ∷ ts) = t ++ (44 ∷ joined (u ∷ ts))
 
 -- "no terms means zero": nothing is printed for it
-unfoldable pub printedPolynomial : List ℕ → List ℕ
-printedPolynomial l = joined (printedTerms 0 l)
+unfoldable pub printed_polynomial : List ℕ → List ℕ
+printed_polynomial l = joined (printed_terms 0 l)

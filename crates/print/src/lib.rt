@@ -1,7 +1,7 @@
 // Printing into a lent buffer: each function writes its text from the place `at` on and answers the place after it.
 ghost use Rattle.std.specs.Prelude.{◌≡◌, [], ◌∷◌, ◌+◌, ◌<◌, ◌≤◌, length};
-ghost use Rattle.print.specs.Printing.{digits, width, decimal, printedTerm, printedPolynomial};
-ghost use Rattle.print.specs.Places.{printedPlace};
+ghost use Rattle.print.specs.Printing.{digits, width, decimal, printed_term, printed_polynomial};
+ghost use Rattle.print.specs.Places.{printed_place};
 ghost use Rattle.print.specs.Write.{Writes};
 
 pub fn put_byte(byte: u8, at: usize, out: &mut [u8]) -> usize
@@ -63,8 +63,8 @@ pub fn put_decimal(v: usize, at: usize, out: &mut [u8]) -> usize
 
 // A term, `index:value`.
 pub fn put_term(i: usize, v: u16, at: usize, out: &mut [u8]) -> usize
-    requires { (i < 100000) × (at + length (printedTerm i v) ≤ length out.old) }
-    ensures { Writes out.old at (printedTerm i v) out.new result }
+    requires { (i < 100000) × (at + length (printed_term i v) ≤ length out.old) }
+    ensures { Writes out.old at (printed_term i v) out.new result }
 {
     let colon = put_decimal(i, at, out);
     let value = put_byte(b':', colon, out);
@@ -73,8 +73,8 @@ pub fn put_term(i: usize, v: u16, at: usize, out: &mut [u8]) -> usize
 
 // What place i of a polynomial adds to the terms before it.
 fn put_place(first: bool, i: usize, v: u16, at: usize, out: &mut [u8]) -> usize
-    requires { (i < 100000) × (at + length (printedPlace first i v) ≤ length out.old) }
-    ensures { Writes out.old at (printedPlace first i v) out.new result }
+    requires { (i < 100000) × (at + length (printed_place first i v) ≤ length out.old) }
+    ensures { Writes out.old at (printed_place first i v) out.new result }
 {
     if v == 0 {
         return at;
@@ -88,8 +88,8 @@ fn put_place(first: bool, i: usize, v: u16, at: usize, out: &mut [u8]) -> usize
 
 // The nonzero terms of a list. As long as nothing is printed, the next term is the first.
 pub fn put_polynomial(list: &[u16], at: usize, out: &mut [u8]) -> usize
-    requires { (length list.now ≤ 100000) × (at + length (printedPolynomial list.now) ≤ length out.old) }
-    ensures { Writes out.old at (printedPolynomial list.now) out.new result }
+    requires { (length list.now ≤ 100000) × (at + length (printed_polynomial list.now) ≤ length out.old) }
+    ensures { Writes out.old at (printed_polynomial list.now) out.new result }
 {
     let mut next = at;
     for i in 0..list.len() {

@@ -6,10 +6,10 @@ use Prim.Native.Nat.{ℕ, zero, suc, ◌+◌, ◌<◌}
 use native.Mathlib.Omega.{arith}
 use lib.Dec.{T, eqb, eqb→eq}
 use Rattle.lists.specs.Every.{below}
-use Rattle.lists.proofs.Every.{at-below}
+use Rattle.lists.proofs.Every.{at_below}
 use Rattle.residue.specs.Field.{q, mulq, powq, invq}
-use Rattle.residue.proofs.FieldLaws.{mulq-comm, mulq-assoc, mulq-one, one-mulq, invq-lt}
-use Rattle.residue.proofs.PowerLaws.{powq-add, powq-one}
+use Rattle.residue.proofs.FieldLaws.{mulq_comm, mulq_assoc, mulq_one, one_mulq, invq_lt}
+use Rattle.residue.proofs.PowerLaws.{powq_add, powq_one}
 
 -- ---- a^3456 as squares of cubes, so that no number grows
 
@@ -29,19 +29,19 @@ all_one : T (below is_one 3456)
 unfolding below is_one turned square cube mulq
 all_one = tt
 
-square-powq : (a n : ℕ) {x : ℕ} → x ≡ powq a n → square x ≡ powq a (n + n)
+square_powq : (a n : ℕ) {x : ℕ} → x ≡ powq a n → square x ≡ powq a (n + n)
 unfolding square
-square-powq a n e = ap square e ∙ sym (powq-add a n n)
+square_powq a n e = ap square e ∙ sym (powq_add a n n)
 
-cube-powq : (a n : ℕ) {x : ℕ} → x ≡ powq a n → cube x ≡ powq a (n + (n + n))
+cube_powq : (a n : ℕ) {x : ℕ} → x ≡ powq a n → cube x ≡ powq a (n + (n + n))
 unfolding cube
-cube-powq a n e = ap cube e ∙ ap (mulq (powq a n)) (sym (powq-add a n n)) ∙ sym (powq-add a n (n + n))
+cube_powq a n e = ap cube e ∙ ap (mulq (powq a n)) (sym (powq_add a n n)) ∙ sym (powq_add a n (n + n))
 
-turned-powq : {a : ℕ} → a < q → turned a ≡ powq a 3456
+turned_powq : {a : ℕ} → a < q → turned a ≡ powq a 3456
 unfolding turned
-turned-powq {a} h =
-    square-powq a 1728 (square-powq a 864 (square-powq a 432 (square-powq a 216 (square-powq a 108 (square-powq a 54 (square-powq a 27
-    (cube-powq a 9 (cube-powq a 3 (cube-powq a 1 (sym (powq-one h)))))))))))
+turned_powq {a} h =
+    square_powq a 1728 (square_powq a 864 (square_powq a 432 (square_powq a 216 (square_powq a 108 (square_powq a 54 (square_powq a 27
+    (cube_powq a 9 (cube_powq a 3 (cube_powq a 1 (sym (powq_one h)))))))))))
 
 -- ---- the laws
 
@@ -49,20 +49,20 @@ turned-powq {a} h =
 pub fermat : (a : ℕ) → 0 < a → a < q → powq a 3456 ≡ 1
 unfolding is_one
 fermat zero p h = absurd (omega arith)
-fermat (suc k) p h = sym (turned-powq h) ∙ eqb→eq _ _ (at-below is_one 3456 all_one k (omega arith))
+fermat (suc k) p h = sym (turned_powq h) ∙ eqb→eq _ _ (at_below is_one 3456 all_one k (omega arith))
 
 -- a (1/a) = 1
-pub mulq-invq : (a : ℕ) → 0 < a → a < q → mulq a (invq a) ≡ 1
+pub mulq_invq : (a : ℕ) → 0 < a → a < q → mulq a (invq a) ≡ 1
 unfolding invq
-mulq-invq a p h = ap (λ x. mulq x (powq a 3455)) (sym (powq-one h)) ∙ sym (powq-add a 1 3455) ∙ fermat a p h
+mulq_invq a p h = ap (λ x. mulq x (powq a 3455)) (sym (powq_one h)) ∙ sym (powq_add a 1 3455) ∙ fermat a p h
 
 -- only 1/a does that
-pub invq-only : (a b : ℕ) → 0 < a → a < q → b < q → mulq a b ≡ 1 → b ≡ invq a
-invq-only a b p ha hb e =
-    sym (one-mulq hb) ∙ ap (λ x. mulq x b) (sym (mulq-invq a p ha) ∙ mulq-comm a (invq a)) ∙ mulq-assoc (invq a) a b
-    ∙ ap (mulq (invq a)) e ∙ mulq-one (invq-lt a)
+pub invq_only : (a b : ℕ) → 0 < a → a < q → b < q → mulq a b ≡ 1 → b ≡ invq a
+invq_only a b p ha hb e =
+    sym (one_mulq hb) ∙ ap (λ x. mulq x b) (sym (mulq_invq a p ha) ∙ mulq_comm a (invq a)) ∙ mulq_assoc (invq a) a b
+    ∙ ap (mulq (invq a)) e ∙ mulq_one (invq_lt a)
 
 -- what is given at 0; no law above covers it
-pub invq-zero : invq 0 ≡ 0
+pub invq_zero : invq 0 ≡ 0
 unfolding invq powq
-invq-zero = refl
+invq_zero = refl

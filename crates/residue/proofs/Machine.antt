@@ -14,8 +14,8 @@ use mir.Val.{SFits, to_z, of_z, sel}
 use borrow.Author.Tests.{lt-ltb}
 
 -- the product of two numbers of k bits has at most k + k
-pub product-bits : (k : ℕ) {a b : ℕ} → a < 2 ^ k → b < 2 ^ k → a * b < 2 ^ (k + k)
-product-bits k {a} {b} ha hb =
+pub product_bits : (k : ℕ) {a b : ℕ} → a < 2 ^ k → b < 2 ^ k → a * b < 2 ^ (k + k)
+product_bits k {a} {b} ha hb =
     subst⁻¹ (λ n. a * b < n) (pow-add 2 k k)
     (lt_of_le_of_lt (mul-le-mul_left a (le_of_lt hb)) (mul-lt-mul_of_pos_right ha (pow_pos k)))
 

@@ -7,5 +7,5 @@ use lib.ListN.{length}
 use Rattle.residue.specs.Residues.{Residues}
 
 -- a list of n residues is one of as many as it has
-pub own-length : {n : ℕ} {l : List ℕ} → Residues n l → Residues (length l) l
-own-length {n} {l} r = subst (λ m. Residues m l) (sym r.long) r
+pub own_length : {n : ℕ} {l : List ℕ} → Residues n l → Residues (length l) l
+own_length {n} {l} r = subst (λ m. Residues m l) (sym r.long) r

@@ -8,21 +8,21 @@ unfoldable pub centred : ℕ → ℤ
 centred a = cond (leb a 1728) (pos a) (neg_ℤ (pos (q - a)))
 
 -- a remainder 0, 1, 2 as 0, 1, -1
-abbrev pub aroundZero : ℕ → ℤ
-aroundZero zero = pos 0
-aroundZero (suc zero) = pos 1
-aroundZero (suc (suc n)) = negsuc 0
+abbrev pub around_zero : ℕ → ℤ
+around_zero zero = pos 0
+around_zero (suc zero) = pos 1
+around_zero (suc (suc n)) = negsuc 0
 
 -- "the remainder by 3 is taken into -1, 0, 1": the one that differs from z by a multiple of 3
-unfoldable pub byThree : ℤ → ℤ
-byThree (pos n) = aroundZero (n % 3)
-byThree (negsuc n) = neg_ℤ (aroundZero (suc n % 3))
+unfoldable pub by_three : ℤ → ℤ
+by_three (pos n) = around_zero (n % 3)
+by_three (negsuc n) = neg_ℤ (around_zero (suc n % 3))
 
 -- "this signed pair of steps is done in that order"
-unfoldable pub centredByThree : ℕ → ℤ
-centredByThree a = byThree (centred a)
+unfoldable pub centred_by_three : ℕ → ℤ
+centred_by_three a = by_three (centred a)
 
 -- the residue of a whole number: -1 is 3456
-unfoldable pub residueOf : ℤ → ℕ
-residueOf (pos n) = n % q
-residueOf (negsuc n) = negq (suc n)
+unfoldable pub residue_of : ℤ → ℕ
+residue_of (pos n) = n % q
+residue_of (negsuc n) = negq (suc n)

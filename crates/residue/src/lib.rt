@@ -1,7 +1,7 @@
 // Residues modulo 3457 and their steps. Sums and differences compare and subtract; `mul` alone reduces.
 ghost use Rattle.std.specs.Prelude.{◌≡◌, ◌<◌};
 ghost use Rattle.residue.specs.Field.{q, addq, subq, negq, mulq, powq, invq};
-ghost use Rattle.residue.specs.Signed.{centred, byThree, centredByThree};
+ghost use Rattle.residue.specs.Signed.{centred, by_three, centred_by_three};
 
 pub mod scan;
 
@@ -95,7 +95,7 @@ impl Residue {
     // Centred first, then by 3: -1, 0 or 1.
     pub fn centred_by_three(self) -> i32
         requires { self.0 < q }
-        ensures { result ≡ centredByThree self.0 }
+        ensures { result ≡ centred_by_three self.0 }
     {
         by_three(self.centred())
     }
@@ -103,7 +103,7 @@ impl Residue {
 
 // The one of -1, 0 and 1 that differs from the value by a multiple of 3.
 pub fn by_three(value: i32) -> i32
-    ensures { result ≡ byThree value }
+    ensures { result ≡ by_three value }
 {
     let m = value % 3;
     if m == 2 {

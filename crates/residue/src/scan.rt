@@ -1,9 +1,9 @@
 // The place of the first number of a list that is too large for a residue.
 ghost use Rattle.std.specs.Prelude.{◌≡◌, ℕ, ◌<◌, ◌≤◌, length, get_or};
-ghost use Rattle.residue.specs.Large.{tooLarge, firstLarge};
+ghost use Rattle.residue.specs.Large.{too_large, first_large};
 
 fn too_large(x: u16) -> bool
-    ensures { result ≡ tooLarge x }
+    ensures { result ≡ too_large x }
 {
     x > 3456
 }
@@ -26,7 +26,7 @@ fn largest(list: &[u16]) -> u16
 }
 
 fn search_large(list: &[u16]) -> usize
-    ensures { result ≡ firstLarge list.now }
+    ensures { result ≡ first_large list.now }
 {
     let mut i = 0;
     while i < list.len() {
@@ -40,7 +40,7 @@ fn search_large(list: &[u16]) -> usize
 
 // The length where there is none. The largest number tells that faster than a search, so the place is looked for only where there is one.
 pub fn first_large(list: &[u16]) -> usize
-    ensures { result ≡ firstLarge list.now }
+    ensures { result ≡ first_large list.now }
 {
     if too_large(largest(list)) {
         search_large(list)

@@ -8,7 +8,7 @@ use native.Mathlib.Omega.{arith}
 use lib.ListN.{length, get_or, set, length-set}
 use lib.Seq.{get_or-set_same, get_or-set_other}
 use Rattle.lists.specs.Tab.{tab}
-use Rattle.lists.proofs.TabLaws.{tab-of}
+use Rattle.lists.proofs.TabLaws.{tab_of}
 use Rattle.algebra.proofs.Halves.{halves}
 
 -- at a loop's head: the buffer l has 2h places, and the first k of each half hold what f says
@@ -19,13 +19,13 @@ pub record HalfFill (f : ℕ → ℕ) (h : ℕ) (l : List ℕ) (k : ℕ) : Type 
   pub high : (i : ℕ) → i < k → get_or l (h + i) 0 ≡ f (h + i)
 
 -- nothing is filled at the start
-pub half-start : (f : ℕ → ℕ) {h : ℕ} {l : List ℕ} → length l ≡ h + h → HalfFill f h l 0
-half-start f e = record { upto = omega arith; long = e; low = λ i p. absurd (omega arith); high = λ i p. absurd (omega arith) }
+pub half_start : (f : ℕ → ℕ) {h : ℕ} {l : List ℕ} → length l ≡ h + h → HalfFill f h l 0
+half_start f e = record { upto = omega arith; long = e; low = λ i p. absurd (omega arith); high = λ i p. absurd (omega arith) }
 
 -- a turn stores f k at k and f (h + k) at h + k
-pub half-turn : {f : ℕ → ℕ} {h : ℕ} {l : List ℕ} {k : ℕ} → HalfFill f h l k → (v w : ℕ) → k < h → v ≡ f k → w ≡ f (h + k)
+pub half_turn : {f : ℕ → ℕ} {h : ℕ} {l : List ℕ} {k : ℕ} → HalfFill f h l k → (v w : ℕ) → k < h → v ≡ f k → w ≡ f (h + k)
     → HalfFill f h (set (set l k v) (h + k) w) (k + 1)
-half-turn {f} {h} {l} {k} r v w b ev ew =
+half_turn {f} {h} {l} {k} r v w b ev ew =
     record {
       upto = omega arith;
       long = length-set (set l k v) (h + k) w ∙ length-set l k v ∙ r.long;
@@ -44,7 +44,7 @@ half-turn {f} {h} {l} {k} r v w b ev ew =
         ∙ r.high i (omega arith)
 
 -- when both halves are filled, the buffer is the table
-pub half-end : {f : ℕ → ℕ} {h : ℕ} {l : List ℕ} {k : ℕ} → HalfFill f h l k → h ≤ k → l ≡ tab (h + h) f
-half-end {f} {h} {l} r b =
-    tab-of 0 (h + h) f l r.long
+pub half_end : {f : ℕ → ℕ} {h : ℕ} {l : List ℕ} {k : ℕ} → HalfFill f h l k → h ≤ k → l ≡ tab (h + h) f
+half_end {f} {h} {l} r b =
+    tab_of 0 (h + h) f l r.long
     (halves h (λ i. get_or l i 0 ≡ f i) (λ i p. r.low i (omega arith)) (λ i p. r.high i (omega arith)))

@@ -7,5 +7,5 @@ use native.Mathlib.Omega.{arith}
 use lib.ListN.{length, take}
 use lib.Seq.{length-take-le}
 
-pub part-long : (k m : ℕ) (room : List ℕ) → m ≡ length room → k ≤ m → length (take k room) ≡ k
-part-long k m room e h = length-take-le k room (omega (arith, e, h))
+pub part_long : (k m : ℕ) (room : List ℕ) → m ≡ length room → k ≤ m → length (take k room) ≡ k
+part_long k m room e h = length-take-le k room (omega (arith, e, h))

@@ -7,8 +7,8 @@ use native.Mathlib.Omega.{arith}
 use Rattle.residue.specs.Field.{generator, powq}
 use Rattle.algebra.specs.Roots.{IsRoot}
 use Rattle.algebra.specs.Transform.{exponent}
-use Rattle.algebra.proofs.Exponent.{Parity, even, odd, parity, exponent-even, exponent-odd}
-use Rattle.algebra.proofs.Sets.{order_small, log-below, log-small, root-positive}
+use Rattle.algebra.proofs.Exponent.{Parity, even, odd, parity, exponent_even, exponent_odd}
+use Rattle.algebra.proofs.Sets.{order_small, log_below, log_small, root_positive}
 use Rattle.slots.specs.Ready.{Ready}
 
 module _ {h s : ℕ} {powers : List ℕ} (ready : Ready h s powers) where
@@ -17,24 +17,24 @@ module _ {h s : ℕ} {powers : List ℕ} (ready : Ready h s powers) where
   root = record { log = s; turns = ready.turns; root = refl }
 
   -- 6h ≤ 3456
-  pub half-small : h ≤ 576
-  half-small = omega (arith, order_small h (powq generator s) root)
+  pub half_small : h ≤ 576
+  half_small = omega (arith, order_small h (powq generator s) root)
 
   -- w is not 0, and s is at most the order of 7
-  pub root-whole : 0 < powq generator s
-  root-whole = root-positive h (powq generator s) root
+  pub root_whole : 0 < powq generator s
+  root_whole = root_positive h (powq generator s) root
 
   pub step_small : s ≤ 3456
-  step_small = log-small h (powq generator s) root
+  step_small = log_small h (powq generator s) root
 
   -- w^k is 7^(s k), with no reduction of s k below w^(6h)
-  pub root-log : (k : ℕ) → k < 6 * h → s * k < 3456
-  root-log = log-below h (powq generator s) root
+  pub root_log : (k : ℕ) → k < 6 * h → s * k < 3456
+  root_log = log_below h (powq generator s) root
 
 -- e < 6h at every slot
-pub exponent-below : (h k : ℕ) → k < h + h → exponent k < 6 * h
-exponent-below h k = by k (parity k)
+pub exponent_below : (h k : ℕ) → k < h + h → exponent k < 6 * h
+exponent_below h k = by k (parity k)
   where
     by : (k : ℕ) → Parity k → k < h + h → exponent k < 6 * h
-    by k (even t) l = omega (arith, exponent-even t)
-    by k (odd t) l = omega (arith, exponent-odd t)
+    by k (even t) l = omega (arith, exponent_even t)
+    by k (odd t) l = omega (arith, exponent_odd t)

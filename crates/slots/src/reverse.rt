@@ -3,7 +3,7 @@ ghost use Rattle.std.specs.Prelude.{◌≡◌, ◌+◌, ◌*◌, ◌-◌, ◌%�
 ghost use Rattle.residue.specs.Field.{q, one, generator, addq, subq, mulq, powq};
 ghost use Rattle.residue.specs.Residues.{Residues};
 ghost use Rattle.powers.specs.Powers.{Powers};
-ghost use Rattle.algebra.specs.Transform.{slotSum, reverse};
+ghost use Rattle.algebra.specs.Transform.{slot_sum, reverse};
 ghost use Rattle.slots.specs.Ready.{Ready};
 
 use crate::transform::{advance, plus_term};
@@ -37,7 +37,7 @@ fn plus_pair(
 // S_j: the sum over the slots of a_k y^e, where y is w^-j. The exponents e are 1 and 5, 7 and 11, and so on by six.
 fn slot_sum(half: usize, step: usize, a: &[u16], powers: &[u16; 3456], j: usize) -> Residue
     requires { Ready half step powers.now × Residues (half + half) a.now × (j < half + half) }
-    ensures { (result.0 ≡ slotSum half (powq generator step) a.now j) × (result.0 < q) }
+    ensures { (result.0 ≡ slot_sum half (powq generator step) a.now j) × (result.0 < q) }
 {
     let log = opposite(step * j);
     let two = advance(log, log);

@@ -1,6 +1,6 @@
 // Images worked on slot by slot: sum, difference, product, inverses; the first slot that is zero; whether two lists are equal.
 ghost use Rattle.std.specs.Prelude.{◌≡◌, length};
-ghost use Rattle.lists.specs.First.{firstWhere};
+ghost use Rattle.lists.specs.First.{first_where};
 ghost use Rattle.lists.specs.Every.{equal};
 ghost use Rattle.residue.specs.Residues.{Residues};
 ghost use Rattle.algebra.specs.SlotBySlot.{plus, minus, times, inverses, is_zero};
@@ -53,7 +53,7 @@ pub fn invert(a: &[u16], out: &mut [u16])
 
 // The first slot that is zero; the length where none is.
 pub fn first_zero(a: &[u16]) -> usize
-    ensures { result ≡ firstWhere is_zero a.now }
+    ensures { result ≡ first_where is_zero a.now }
 {
     let mut i = 0;
     while i < a.len() {

@@ -16,6 +16,6 @@ pub bits : (P : ℕ → ℕ → Type 0) → P 0 0 → P 0 1 → P 1 0 → P 1 1 
 bits P p00 p01 p10 p11 a b ha hb = bit (λ a. P a b) (bit (P 0) p00 p01 b hb) (bit (P 1) p10 p11 b hb) a ha
 
 -- a difference of bits is small
-pub difference-small : (a b : ℕ) → a < 2 → b < 2 → Small (pos a -ℤ pos b)
+pub difference_small : (a b : ℕ) → a < 2 → b < 2 → Small (pos a -ℤ pos b)
 unfolding Small
-difference-small = bits (λ a b. nat_abs (pos a -ℤ pos b) ≤ 1) (omega arith) (omega arith) (omega arith) (omega arith)
+difference_small = bits (λ a b. nat_abs (pos a -ℤ pos b) ≤ 1) (omega arith) (omega arith) (omega arith) (omega arith)

@@ -8,19 +8,19 @@ use Rattle.packing.specs.Packing.{packed, groups}
 use Rattle.stages.specs.Images.{image_of}
 
 -- "H block: 32 key bytes, then n/4 bytes from which r is sampled."
-unfoldable pub keyBytes : List ℕ → List ℕ
-keyBytes hblock = take 32 hblock
+unfoldable pub key_bytes : List ℕ → List ℕ
+key_bytes hblock = take 32 hblock
 
-unfoldable pub smallR : List ℕ → List ℤ
-smallR hblock = sampled (drop 32 hblock)
+unfoldable pub small_r : List ℕ → List ℤ
+small_r hblock = sampled (drop 32 hblock)
 
-unfoldable pub rImage : ℕ → ℕ → List ℕ → List ℕ
-rImage h w hblock = image_of h w (smallR hblock)
+unfoldable pub r_image : ℕ → ℕ → List ℕ → List ℕ
+r_image h w hblock = image_of h w (small_r hblock)
 
 -- the image of "h*r + m", h being given by its own image
-unfoldable pub sealedImage : ℕ → ℕ → List ℕ → List ℤ → List ℤ → List ℕ
-sealedImage h w H r m = plus (h + h) (times (h + h) H (image_of h w r)) (image_of h w m)
+unfoldable pub sealed_image : ℕ → ℕ → List ℕ → List ℤ → List ℤ → List ℕ
+sealed_image h w H r m = plus (h + h) (times (h + h) H (image_of h w r)) (image_of h w m)
 
 -- "m = encoding of the message with the G block; ciphertext = packed image of h*r + m"
 unfoldable pub ciphertext : ℕ → ℕ → List ℕ → List ℕ → List ℕ → List ℕ → List ℕ
-ciphertext h w public message hblock gblock = packed (sealedImage h w (groups public) (smallR hblock) (encoded message gblock))
+ciphertext h w public message hblock gblock = packed (sealed_image h w (groups public) (small_r hblock) (encoded message gblock))

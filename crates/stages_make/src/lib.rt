@@ -6,7 +6,7 @@ ghost use Rattle.algebra.specs.SlotBySlot.{times, inverses};
 ghost use Rattle.small.specs.Sampling.{sampled};
 ghost use Rattle.packing.specs.Packing.{packed};
 ghost use Rattle.slots.specs.Ready.{Ready};
-ghost use Rattle.stages.specs.Making.{smallF, smallG, fImage, gImage};
+ghost use Rattle.stages.specs.Making.{small_f, small_g, f_image, g_image};
 
 use residue::Residue;
 use slots::transform::transform;
@@ -35,7 +35,7 @@ fn f_image(
 )
     requires ready { Ready half step powers.now × (length block.now % 8 ≡ 0) × (half + half ≡ 4 * length block.now) }
     requires halves_len { (length halves.old ≡ 4 * half) × (length p.old ≡ half + half) × (length q.old ≡ half + half) × (length out.old ≡ half + half) }
-    ensures { out.new ≡ fImage half (powq generator step) (sampled block.now) }
+    ensures { out.new ≡ f_image half (powq generator step) (sampled block.now) }
 {
     small::sample(block, halves, p);
     triple(p, q);
@@ -56,7 +56,7 @@ fn g_image(
 )
     requires ready { Ready half step powers.now × (length block.now % 8 ≡ 0) × (half + half ≡ 4 * length block.now) }
     requires halves_len { (length halves.old ≡ 4 * half) × (length p.old ≡ half + half) × (length q.old ≡ half + half) × (length out.old ≡ half + half) }
-    ensures { out.new ≡ gImage half (powq generator step) (sampled block.now) }
+    ensures { out.new ≡ g_image half (powq generator step) (sampled block.now) }
 {
     small::sample(block, halves, p);
     triple(p, q);
@@ -77,8 +77,8 @@ fn pair_images_in(
 )
     requires ready { Ready half step powers.now × (length seed.now % 16 ≡ 0) × (half ≡ length seed.now) }
     requires halves_len { (length halves.old ≡ 4 * half) × (length p.old ≡ half + half) × (length q.old ≡ half + half) × (length f.old ≡ half + half) × (length g.old ≡ half + half) }
-    ensures f_after { f.new ≡ fImage half (powq generator step) (smallF seed.now) }
-    ensures g_after { g.new ≡ gImage half (powq generator step) (smallG seed.now) }
+    ensures f_after { f.new ≡ f_image half (powq generator step) (small_f seed.now) }
+    ensures g_after { g.new ≡ g_image half (powq generator step) (small_g seed.now) }
 {
     let middle = seed.len() / 2;
     f_image(half, step, &seed[..middle], powers, halves, p, q, f);
@@ -95,8 +95,8 @@ pub fn pair_images(
     g: &mut [u16],
 )
     requires { Ready half step powers.now × (length seed.now % 16 ≡ 0) × (half ≡ length seed.now) × (length f.old ≡ half + half) × (length g.old ≡ half + half) }
-    ensures f_after { f.new ≡ fImage half (powq generator step) (smallF seed.now) }
-    ensures g_after { g.new ≡ gImage half (powq generator step) (smallG seed.now) }
+    ensures f_after { f.new ≡ f_image half (powq generator step) (small_f seed.now) }
+    ensures g_after { g.new ≡ g_image half (powq generator step) (small_g seed.now) }
 {
     let n = half + half;
     let mut halves = rooms::bits();

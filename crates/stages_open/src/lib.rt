@@ -2,9 +2,9 @@
 ghost use Rattle.std.specs.Prelude.{◌≡◌, map, ◌+◌, length};
 ghost use Rattle.residue.specs.Field.{generator, powq};
 ghost use Rattle.residue.specs.Residues.{Residues};
-ghost use Rattle.marks.specs.Marks.{markOf};
+ghost use Rattle.marks.specs.Marks.{mark_of};
 ghost use Rattle.slots.specs.Ready.{Ready};
-ghost use Rattle.stages.specs.Opening.{openedM, openedR};
+ghost use Rattle.stages.specs.Opening.{opened_m, opened_r};
 
 use slots::reverse::reverse;
 use slots::transform::transform;
@@ -22,7 +22,7 @@ fn open_marks(
 )
     requires ready { Ready half step powers.now × Residues (half + half) f.now × Residues (half + half) c.now }
     requires p_len { (length p.old ≡ half + half) × (length q.old ≡ half + half) × (length marks.old ≡ half + half) }
-    ensures { marks.new ≡ map markOf (openedM half (powq generator step) f.now c.now) }
+    ensures { marks.new ≡ map mark_of (opened_m half (powq generator step) f.now c.now) }
 {
     slotwise::times(c, f, p);
     reverse(half, step, p, powers, q);
@@ -44,8 +44,8 @@ fn open_in(
 )
     requires ready { Ready half step powers.now × Residues (half + half) f.now × Residues (half + half) inverse.now × Residues (half + half) c.now }
     requires p_len { (length p.old ≡ half + half) × (length q.old ≡ half + half) × (length marks.old ≡ half + half) × (length r.old ≡ half + half) }
-    ensures marks_after { marks.new ≡ map markOf (openedM half (powq generator step) f.now c.now) }
-    ensures r_after { r.new ≡ openedR half (powq generator step) f.now inverse.now c.now }
+    ensures marks_after { marks.new ≡ map mark_of (opened_m half (powq generator step) f.now c.now) }
+    ensures r_after { r.new ≡ opened_r half (powq generator step) f.now inverse.now c.now }
 {
     open_marks(half, step, f, c, powers, p, q, marks);
     marks::unmark(marks, p);
@@ -67,8 +67,8 @@ pub fn open(
 )
     requires ready { Ready half step powers.now × Residues (half + half) f.now × Residues (half + half) inverse.now × Residues (half + half) c.now }
     requires marks_len { (length marks.old ≡ half + half) × (length r.old ≡ half + half) }
-    ensures marks_after { marks.new ≡ map markOf (openedM half (powq generator step) f.now c.now) }
-    ensures r_after { r.new ≡ openedR half (powq generator step) f.now inverse.now c.now }
+    ensures marks_after { marks.new ≡ map mark_of (opened_m half (powq generator step) f.now c.now) }
+    ensures r_after { r.new ≡ opened_r half (powq generator step) f.now inverse.now c.now }
 {
     let n = half + half;
     let mut p = rooms::numbers();

@@ -4,14 +4,14 @@ ghost use Rattle.residue.specs.Field.{generator, powq};
 ghost use Rattle.residue.specs.Residues.{Residues};
 ghost use Rattle.encoding.specs.Encoding.{encoded};
 ghost use Rattle.slots.specs.Ready.{Ready};
-ghost use Rattle.stages.specs.Sealing.{keyBytes, smallR, rImage, sealedImage};
+ghost use Rattle.stages.specs.Sealing.{key_bytes, small_r, r_image, sealed_image};
 
 use stages::images::{encoded_image, sampled_image};
 
 // The image of the r that an H block brings after its 32 key bytes.
 pub fn r_image(half: usize, step: usize, hblock: &[u8], powers: &[u16; 3456], out: &mut [u16])
     requires { Ready half step powers.now × (half % 16 ≡ 0) × (length hblock.now + length hblock.now ≡ 64 + half) × (length out.old ≡ half + half) }
-    ensures { out.new ≡ rImage half (powq generator step) hblock.now }
+    ensures { out.new ≡ r_image half (powq generator step) hblock.now }
 {
     sampled_image(half, step, &hblock[32..], powers, out);
 }
@@ -31,7 +31,7 @@ pub fn sealed_image(
 )
     requires ready { Ready half step powers.now × Residues (half + half) h.now × (length message.now % 4 ≡ 0) × (half ≡ 4 * length message.now) × (length hblock.now ≡ 32 + length gblock.now) × (length gblock.now ≡ 2 * length message.now) }
     requires p_len { (length p.old ≡ half + half) × (length r.old ≡ half + half) × (length out.old ≡ half + half) }
-    ensures { out.new ≡ sealedImage half (powq generator step) h.now (smallR hblock.now) (encoded message.now gblock.now) }
+    ensures { out.new ≡ sealed_image half (powq generator step) h.now (small_r hblock.now) (encoded message.now gblock.now) }
 {
     let after = &hblock[32..];
     sampled_image(half, step, after, powers, r);
@@ -43,7 +43,7 @@ pub fn sealed_image(
 // The key bytes of an H block.
 pub fn copy_key(hblock: &[u8], key: &mut [u8])
     requires { (length key.old ≡ 32) × (32 ≤ length hblock.now) }
-    ensures { key.new ≡ keyBytes hblock.now }
+    ensures { key.new ≡ key_bytes hblock.now }
 {
     for i in 0..32 {
         key[i] = hblock[i];

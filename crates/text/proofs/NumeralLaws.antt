@@ -13,35 +13,35 @@ use lib.Seq.{drop-cons}
 use borrow.Author.Tests.{leb-true, ne_eqb}
 use Rattle.lists.proofs.Every.{both_true}
 use Rattle.text.specs.declared.Number.TheVariants.{Is, NotNumber}
-use Rattle.text.specs.Numerals.{isDigit, allDigits, spelled, unpadded, is_number, number}
+use Rattle.text.specs.Numerals.{is_digit, all_digits, spelled, unpadded, is_number, number}
 
 -- a digit is 48 to 57
-pub digit-is : (c : ℕ) → isDigit c ≡ true → (48 ≤ c) × (c ≤ 57)
-unfolding isDigit
-digit-is c e = let b = both_true (leb 48 c) (leb c 57) e in (leb-true 48 c b.0, leb-true c 57 b.1)
+pub digit_is : (c : ℕ) → is_digit c ≡ true → (48 ≤ c) × (c ≤ 57)
+unfolding is_digit
+digit_is c e = let b = both_true (leb 48 c) (leb c 57) e in (leb-true 48 c b.0, leb-true c 57 b.1)
 
 -- ---- the turns of the loops at the place i, and their ends
 
 module _ (s : List ℕ) (i : ℕ) where
   -- a digit at i: the rest tells
-  pub digits_more : i < length s → isDigit (get_or s i 0) ≡ true → allDigits (drop i s) ≡ allDigits (drop (i + 1) s)
-  unfolding allDigits
+  pub digits_more : i < length s → is_digit (get_or s i 0) ≡ true → all_digits (drop i s) ≡ all_digits (drop (i + 1) s)
+  unfolding all_digits
   digits_more h e = rw (add-one, drop-cons s i 0) (simp e)
 
   -- another byte at i: not all are digits
-  pub digits-not : i < length s → isDigit (get_or s i 0) ≡ false → allDigits (drop i s) ≡ false
-  unfolding allDigits
-  digits-not h e = rw (drop-cons s i 0) (simp e)
+  pub digits_not : i < length s → is_digit (get_or s i 0) ≡ false → all_digits (drop i s) ≡ false
+  unfolding all_digits
+  digits_not h e = rw (drop-cons s i 0) (simp e)
 
   -- none is left
-  pub digits-none : length s ≤ i → allDigits (drop i s) ≡ true
-  unfolding allDigits
-  digits-none h = ap allDigits (drop_of_length-le s h)
+  pub digits_none : length s ≤ i → all_digits (drop i s) ≡ true
+  unfolding all_digits
+  digits_none h = ap all_digits (drop_of_length-le s h)
 
   -- the digit at i comes after those of the sum
-  pub spelled-more : (sum : ℕ) → i < length s → spelled sum (drop i s) ≡ spelled (10 * sum + (get_or s i 0 - 48)) (drop (i + 1) s)
+  pub spelled_more : (sum : ℕ) → i < length s → spelled sum (drop i s) ≡ spelled (10 * sum + (get_or s i 0 - 48)) (drop (i + 1) s)
   unfolding spelled
-  spelled-more sum h = rw (add-one, drop-cons s i 0) refl
+  spelled_more sum h = rw (add-one, drop-cons s i 0) refl
 
   -- none is left
   pub spelled_none : (sum : ℕ) → length s ≤ i → spelled sum (drop i s) ≡ sum
@@ -49,23 +49,23 @@ module _ (s : List ℕ) (i : ℕ) where
   spelled_none sum h = ap (spelled sum) (drop_of_length-le s h)
 
 -- each byte of a run of digits is one
-pub digit_at : (s : List ℕ) → allDigits s ≡ true → (i : ℕ) → i < length s → isDigit (get_or s i 0) ≡ true
-unfolding allDigits
+pub digit_at : (s : List ℕ) → all_digits s ≡ true → (i : ℕ) → i < length s → is_digit (get_or s i 0) ≡ true
+unfolding all_digits
 digit_at [] e i h = absurd (omega arith)
-digit_at (c ∷ s) e zero h = (both_true (isDigit c) (allDigits s) e).0
-digit_at (c ∷ s) e (suc i) h = digit_at s (both_true (isDigit c) (allDigits s) e).1 i (omega arith)
+digit_at (c ∷ s) e zero h = (both_true (is_digit c) (all_digits s) e).0
+digit_at (c ∷ s) e (suc i) h = digit_at s (both_true (is_digit c) (all_digits s) e).1 i (omega arith)
 
 -- one byte at most has no leading zero
-pub unpadded-short : (s : List ℕ) → length s < 2 → unpadded s ≡ true
+pub unpadded_short : (s : List ℕ) → length s < 2 → unpadded s ≡ true
 unfolding unpadded
-unpadded-short [] h = refl
-unpadded-short (c ∷ []) h = refl
-unpadded-short (c ∷ d ∷ s) h = absurd (omega arith)
+unpadded_short [] h = refl
+unpadded_short (c ∷ []) h = refl
+unpadded_short (c ∷ d ∷ s) h = absurd (omega arith)
 
 -- of more the first tells
-pub unpadded-long : (s : List ℕ) → 2 ≤ length s → unpadded s ≡ not (eqb (get_or s 0 0) 48)
+pub unpadded_long : (s : List ℕ) → 2 ≤ length s → unpadded s ≡ not (eqb (get_or s 0 0) 48)
 unfolding unpadded
-unpadded-long s h = simp (ne_eqb (length s) 1 (λ e. omega arith))
+unpadded_long s h = simp (ne_eqb (length s) 1 (λ e. omega arith))
 
 -- ---- numbers
 
@@ -75,38 +75,38 @@ module _ (s : List ℕ) where
   unfolding number
   number_is e = simp e
 
-  pub number-not : is_number s ≡ false → number s ≡ NotNumber
+  pub number_not : is_number s ≡ false → number s ≡ NotNumber
   unfolding number
-  number-not e = simp e
+  number_not e = simp e
 
 -- what the test says, for the summing up: at most 5 bytes, each a digit
 pub record IsNumber (s : List ℕ) : Type 0 where
   pub few : length s ≤ 5
-  pub digits : allDigits s ≡ true
+  pub digits : all_digits s ≡ true
 
-pub is-number : (s : List ℕ) → is_number s ≡ true → IsNumber s
+pub is_number_lem : (s : List ℕ) → is_number s ≡ true → IsNumber s
 unfolding is_number
-is-number s e =
+is_number_lem s e =
     let a = (both_true (leb 1 (length s)) _ e).1 in
     let b = both_true (leb (length s) 5) _ a in
-    record { few = leb-true (length s) 5 b.0; digits = (both_true (allDigits s) (unpadded s) b.1).0 }
+    record { few = leb-true (length s) 5 b.0; digits = (both_true (all_digits s) (unpadded s) b.1).0 }
 
 -- one digit after k makes k + 1 of them
-pub power-more : (sum d k : ℕ) → sum < 10 ^ k → d ≤ 9 → 10 * sum + d < 10 ^ (k + 1)
-power-more sum d k h b = rw add-one (omega (arith, pow-succ' 10 k))
+pub power_more : (sum d k : ℕ) → sum < 10 ^ k → d ≤ 9 → 10 * sum + d < 10 ^ (k + 1)
+power_more sum d k h b = rw add-one (omega (arith, pow-succ' 10 k))
 
 -- and at most 5 of them are below 100000
-pub power-few : (sum k : ℕ) → k ≤ 5 → sum < 10 ^ k → sum < 100000
-power-few sum k h b = lt_of_lt_of_le b (pow-le-pow_right {n = 10} (omega arith) {i = k} {j = 5} h)
+pub power_few : (sum k : ℕ) → k ≤ 5 → sum < 10 ^ k → sum < 100000
+power_few sum k h b = lt_of_lt_of_le b (pow-le-pow_right {n = 10} (omega arith) {i = k} {j = 5} h)
 
 -- the digits of s after at most k others: a number of at most k + length s digits
-spelled-below : (s : List ℕ) (sum k : ℕ) → allDigits s ≡ true → sum < 10 ^ k → spelled sum s < 10 ^ (k + length s)
-unfolding allDigits spelled
-spelled-below [] sum k e h = let z : k + 0 ≡ k = omega arith in rw z h
-spelled-below (c ∷ s) sum k e h =
-    let b = both_true (isDigit c) (allDigits s) e in
+spelled_below : (s : List ℕ) (sum k : ℕ) → all_digits s ≡ true → sum < 10 ^ k → spelled sum s < 10 ^ (k + length s)
+unfolding all_digits spelled
+spelled_below [] sum k e h = let z : k + 0 ≡ k = omega arith in rw z h
+spelled_below (c ∷ s) sum k e h =
+    let b = both_true (is_digit c) (all_digits s) e in
     let z : k + suc (length s) ≡ k + 1 + length s = omega arith in
-    rw z (spelled-below s (10 * sum + (c - 48)) (k + 1) b.1 (power-more sum (c - 48) k h (omega (arith, digit-is c b.0))))
+    rw z (spelled_below s (10 * sum + (c - 48)) (k + 1) b.1 (power_more sum (c - 48) k h (omega (arith, digit_is c b.0))))
 
 -- a number is below 100000
 pub number_bound : (s : List ℕ) (v : ℕ) → number s ≡ Is v → v < 100000
@@ -116,6 +116,6 @@ number_bound s v = by (is_number s) refl
     by : (b : Bool) → is_number s ≡ b → cond b (Is (spelled 0 s)) NotNumber ≡ Is v → v < 100000
     by true e q =
         let same : spelled 0 s ≡ v = cc in
-        let n = is-number s e in
-        subst (λ x. x < 100000) same (power-few _ (0 + length s) (omega (arith, n.few)) (spelled-below s 0 0 n.digits (omega arith)))
+        let n = is_number_lem s e in
+        subst (λ x. x < 100000) same (power_few _ (0 + length s) (omega (arith, n.few)) (spelled_below s 0 0 n.digits (omega arith)))
     by false e q = let z : ◌≡◌ {A = ℕ} 0 1 = cc in absurd (omega arith)

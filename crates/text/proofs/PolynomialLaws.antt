@@ -13,26 +13,26 @@ use lib.Seq.{get_or-set_same, get_or-set_other}
 use borrow.Author.Tests.{eq-eqb, ne_eqb}
 use Rattle.residue.specs.Field.{q}
 use Rattle.residue.specs.Residues.{Residues}
-use Rattle.lists.proofs.TabLaws.{length-tab, getD-tab}
+use Rattle.lists.proofs.TabLaws.{length_tab, get_or_tab}
 use Rattle.text.specs.declared.Term.{Term}
 use Rattle.text.specs.declared.Term.TheVariants.{Of, NotTerm}
 use Rattle.text.specs.Lines.{comma, split}
-use Rattle.text.specs.Terms.{term, allowed, onTerm, terms}
+use Rattle.text.specs.Terms.{term, allowed, on_term, terms}
 use Rattle.text.specs.Polynomials.{zeros, polynomial, Reads}
-use Rattle.text.proofs.TermLaws.{allowed-is}
+use Rattle.text.proofs.TermLaws.{allowed_is}
 
 -- ---- the two cases
 
 module _ (n : ℕ) (s : List ℕ) where
   -- no bytes: zero
-  pub polynomial-zero : length s ≡ 0 → polynomial n s ≡ some (zeros n)
+  pub polynomial_zero : length s ≡ 0 → polynomial n s ≡ some (zeros n)
   unfolding polynomial
-  polynomial-zero e = simp (eq-eqb (length s) 0 e)
+  polynomial_zero e = simp (eq-eqb (length s) 0 e)
 
   -- some bytes: their terms into a list z of n zeros
-  pub polynomial-terms : (length s ≡ 0 → ⊥) → (z : List ℕ) → z ≡ zeros n → terms (length z) 0 z (split comma s) ≡ polynomial n s
+  pub polynomial_terms : (length s ≡ 0 → ⊥) → (z : List ℕ) → z ≡ zeros n → terms (length z) 0 z (split comma s) ≡ polynomial n s
   unfolding polynomial zeros
-  polynomial-terms h z e = simp (ne_eqb (length s) 0 h, e, length-tab {A = ℕ} n (λ _. 0))
+  polynomial_terms h z e = simp (ne_eqb (length s) 0 h, e, length_tab {A = ℕ} n (λ _. 0))
 
 -- ---- what the reader owes at each exit
 
@@ -41,56 +41,56 @@ pub reads_none : (after : List ℕ) {o : Option (List ℕ)} → o ≡ none → R
 unfolding Reads
 reads_none after e = rw e refl
 
-pub reads-some : (l : List ℕ) {o : Option (List ℕ)} → o ≡ some l → Reads true l o
+pub reads_some : (l : List ℕ) {o : Option (List ℕ)} → o ≡ some l → Reads true l o
 unfolding Reads
-reads-some l e = rw e (refl, refl)
+reads_some l e = rw e (refl, refl)
 
 -- what a reader that owes it has read
-pub reads-good : (after : List ℕ) (o : Option (List ℕ)) → Reads true after o → o ≡ some after
+pub reads_good : (after : List ℕ) (o : Option (List ℕ)) → Reads true after o → o ≡ some after
 unfolding Reads
-reads-good after none e = absurd (true≢false e)
-reads-good after (some l) e = ap some (sym e.1)
+reads_good after none e = absurd (true≢false e)
+reads_good after (some l) e = ap some (sym e.1)
 
-pub reads-bad : (after : List ℕ) (o : Option (List ℕ)) → Reads false after o → o ≡ none
+pub reads_bad : (after : List ℕ) (o : Option (List ℕ)) → Reads false after o → o ≡ none
 unfolding Reads
-reads-bad after none e = refl
-reads-bad after (some l) e = absurd (false≢true e.0)
+reads_bad after none e = refl
+reads_bad after (some l) e = absurd (false≢true e.0)
 
 -- ---- a polynomial is n residues
 
 -- zero is n residues, and stays n residues when one of them is set
-zeros-residues : (n : ℕ) → Residues n (zeros n)
+zeros_residues : (n : ℕ) → Residues n (zeros n)
 unfolding zeros
-zeros-residues n = record { long = length-tab n (λ _. 0); low = λ i h. rw (getD-tab {A = ℕ} n (λ _. 0) i 0 h) (omega arith) }
+zeros_residues n = record { long = length_tab n (λ _. 0); low = λ i h. rw (get_or_tab {A = ℕ} n (λ _. 0) i 0 h) (omega arith) }
 
-set-residues : (n : ℕ) (l : List ℕ) (i v : ℕ) → Residues n l → v ≤ 3456 → Residues n (set l i v)
-set-residues n l i v r h = record { long = length-set l i v ∙ r.long; low = λ k b. by k b (ℕ_discrete k i) }
+set_residues : (n : ℕ) (l : List ℕ) (i v : ℕ) → Residues n l → v ≤ 3456 → Residues n (set l i v)
+set_residues n l i v r h = record { long = length-set l i v ∙ r.long; low = λ k b. by k b (ℕ_discrete k i) }
   where
     by : (k : ℕ) → k < n → Dec (k ≡ i) → get_or (set l i v) k 0 < q
     by k b (yes p) = rw (p, get_or-set_same l i v 0 (omega (arith, r.long))) (omega arith)
     by k b (no p) = rw (get_or-set_other l i k v 0 p) (r.low k b)
 
 -- each term leaves n residues
-terms-residues : (n low : ℕ) (l : List ℕ) (ts : List (List ℕ)) {l' : List ℕ} → Residues n l → terms n low l ts ≡ some l' → Residues n l'
-unfolding terms onTerm
-terms-residues n low l [] {l'} r e = let same : l ≡ l' = cc in subst (Residues n) same r
-terms-residues n low l (t ∷ ts) {l'} r e = by (term t) (λ i v. terms-residues n (suc i) (set l i v) ts) e
+terms_residues : (n low : ℕ) (l : List ℕ) (ts : List (List ℕ)) {l' : List ℕ} → Residues n l → terms n low l ts ≡ some l' → Residues n l'
+unfolding terms on_term
+terms_residues n low l [] {l'} r e = let same : l ≡ l' = cc in subst (Residues n) same r
+terms_residues n low l (t ∷ ts) {l'} r e = by (term t) (λ i v. terms_residues n (suc i) (set l i v) ts) e
   where
     last : (i v : ℕ) (b : Bool) → allowed n low i v ≡ b → (Residues n (set l i v) → terms n (suc i) (set l i v) ts ≡ some l' → Residues n l')
         → cond b (terms n (suc i) (set l i v) ts) none ≡ some l' → Residues n l'
-    last i v true a f e = f (set-residues n l i v r (allowed-is n low i v a).most) e
+    last i v true a f e = f (set_residues n l i v r (allowed_is n low i v a).most) e
     last i v false a f e = let z : ◌≡◌ {A = ℕ} 0 1 = cc in absurd (omega arith)
 
     by : (x : Term) → ((i v : ℕ) → Residues n (set l i v) → terms n (suc i) (set l i v) ts ≡ some l' → Residues n l')
-        → onTerm (λ low' m. terms n low' m ts) n low l x ≡ some l' → Residues n l'
+        → on_term (λ low' m. terms n low' m ts) n low l x ≡ some l' → Residues n l'
     by NotTerm f e = let z : ◌≡◌ {A = ℕ} 0 1 = cc in absurd (omega arith)
     by (Of i v) f e = last i v (allowed n low i v) refl (f i v) e
 
 -- what is read is n residues
-pub polynomial-residues : (n : ℕ) (s : List ℕ) {l : List ℕ} → polynomial n s ≡ some l → Residues n l
+pub polynomial_residues : (n : ℕ) (s : List ℕ) {l : List ℕ} → polynomial n s ≡ some l → Residues n l
 unfolding polynomial
-polynomial-residues n s {l} e = by (eqb (length s) 0) e
+polynomial_residues n s {l} e = by (eqb (length s) 0) e
   where
     by : (b : Bool) → cond b (some (zeros n)) (terms n 0 (zeros n) (split comma s)) ≡ some l → Residues n l
-    by true e = let same : zeros n ≡ l = cc in subst (Residues n) same (zeros-residues n)
-    by false e = terms-residues n 0 (zeros n) (split comma s) (zeros-residues n) e
+    by true e = let same : zeros n ≡ l = cc in subst (Residues n) same (zeros_residues n)
+    by false e = terms_residues n 0 (zeros n) (split comma s) (zeros_residues n) e

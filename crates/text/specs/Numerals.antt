@@ -5,13 +5,13 @@ use Rattle.text.specs.declared.Number.{Number}
 use Rattle.text.specs.declared.Number.TheVariants.{Is, NotNumber}
 
 -- 0 to 9
-unfoldable pub isDigit : ℕ → Bool
-isDigit c = leb 48 c && leb c 57
+unfoldable pub is_digit : ℕ → Bool
+is_digit c = leb 48 c && leb c 57
 
 -- each byte is a digit
-unfoldable pub allDigits : List ℕ → Bool
-allDigits [] = true
-allDigits (c ∷ s) = isDigit c && allDigits s
+unfoldable pub all_digits : List ℕ → Bool
+all_digits [] = true
+all_digits (c ∷ s) = is_digit c && all_digits s
 
 -- the number that the digits spell, after those of acc
 unfoldable pub spelled : ℕ → List ℕ → ℕ
@@ -24,7 +24,7 @@ unpadded s = eqb (length s) 1 || not (eqb (get_or s 0 0) 48)
 
 -- "a decimal of 1 to 5 digits"
 unfoldable pub is_number : List ℕ → Bool
-is_number s = leb 1 (length s) && (leb (length s) 5 && (allDigits s && unpadded s))
+is_number s = leb 1 (length s) && (leb (length s) 5 && (all_digits s && unpadded s))
 
 -- the number that a piece of text is; for index and value too: six digits without a leading zero are above 3456, and not below an n of at most 100000
 unfoldable pub number : List ℕ → Number

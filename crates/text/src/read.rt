@@ -1,16 +1,16 @@
 // The reading of input lines: every public function takes the very bytes that it judges, and asks nothing of them.
 ghost use Rattle.std.specs.Prelude.{◌≡◌, true, ◌-◌, ◌≤◌, eqb, length};
-ghost use Rattle.lists.specs.First.{firstWhere};
-ghost use Rattle.text.specs.Numerals.{isDigit, allDigits, spelled, unpadded, is_number, number};
+ghost use Rattle.lists.specs.First.{first_where};
+ghost use Rattle.text.specs.Numerals.{is_digit, all_digits, spelled, unpadded, is_number, number};
 ghost use Rattle.text.specs.Lines.{comma, up_to, past, begins, split};
-ghost use Rattle.text.specs.Terms.{termOf, term, allowed, terms};
+ghost use Rattle.text.specs.Terms.{term_of, term, allowed, terms};
 ghost use Rattle.text.specs.Polynomials.{zeros, polynomial, Reads};
 
 use crate::{Number, Term};
 
 // The place of the first such byte, or the length where there is none.
 pub fn find(s: &[u8], byte: u8) -> usize
-    ensures { result ≡ firstWhere (eqb byte) s.now }
+    ensures { result ≡ first_where (eqb byte) s.now }
 {
     let mut i = 0;
     while i < s.len() {
@@ -59,13 +59,13 @@ pub fn begins(name: &[u8], s: &[u8]) -> bool
 }
 
 fn is_digit(byte: u8) -> bool
-    ensures { result ≡ isDigit byte }
+    ensures { result ≡ is_digit byte }
 {
     (b'0' <= byte) & (byte <= b'9')
 }
 
 fn all_digits(s: &[u8]) -> bool
-    ensures { result ≡ allDigits s.now }
+    ensures { result ≡ all_digits s.now }
 {
     for i in 0..s.len() {
         if !is_digit(s[i]) {
@@ -77,7 +77,7 @@ fn all_digits(s: &[u8]) -> bool
 
 // What one digit stands for.
 fn digit(byte: u8) -> usize
-    requires { isDigit byte ≡ true }
+    requires { is_digit byte ≡ true }
     ensures { (result ≡ byte - 48) × (result ≤ 9) }
 {
     (byte - b'0') as usize
@@ -119,7 +119,7 @@ pub fn number(s: &[u8]) -> Number
 }
 
 fn term_of(index: Number, value: Number) -> Term
-    ensures { result ≡ termOf index value }
+    ensures { result ≡ term_of index value }
 {
     match index {
         Number::Is(i) => match value {

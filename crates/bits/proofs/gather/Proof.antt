@@ -6,20 +6,20 @@ use native.Mathlib.Nat.{add_comm, mul-le-mul_right, pow-le-pow_right}
 use native.Mathlib.Omega.{arith}
 use lib.ListN.{get_or}
 use Rattle.bits.specs.Bits.{number}
-use Rattle.bits.proofs.Digits.{number-zero, number-cong, number_more, number_lt}
+use Rattle.bits.proofs.Digits.{number_zero, number_cong, number_more, number_lt}
 use Rattle.bits.proofs.Places.{row_next}
 use Rattle.bits.proofs.gather.Statement.{statement}
 use Rattle.bits.proofs.gather.Tie as tie
 
-abbrev invariant-loop : tie.invariant-loop
-invariant-loop bits at stride byte₀ from₀ counter₀ byte from counter =
+abbrev invariant_loop : tie.invariant-loop
+invariant_loop bits at stride byte₀ from₀ counter₀ byte from counter =
     (byte ≡ number counter (λ b. get_or bits (at + (8 - counter + b) * stride) 0)) × (from ≡ at + (8 - counter) * stride) × (counter ≤ 8)
 
-abbrev decreases-loop : tie.decreases-loop
-decreases-loop bits at stride byte₀ from₀ counter₀ byte from counter = 8 - counter
+abbrev decreases_loop : tie.decreases-loop
+decreases_loop bits at stride byte₀ from₀ counter₀ byte from counter = 8 - counter
 
 -- at the head of a turn, the place that it reads is one stride back
-reads_at : (c : tie.In-loop invariant-loop decreases-loop)
+reads_at : (c : tie.In-loop invariant_loop decreases_loop)
     → c.before.loop.from ≡ c.before.before.args.at + (8 - (c.before.loop.counter + 1)) * c.before.before.args.stride + c.before.before.args.stride
 reads_at c =
     let stride = c.before.before.args.stride in
@@ -28,11 +28,11 @@ reads_at c =
     omega (arith, c.before.loop.invariant.1, ap (λ m. m * stride) e, row_next (8 - (k + 1)) stride)
 
 -- and within the eight
-within : (c : tie.In-loop invariant-loop decreases-loop) → (8 - (c.before.loop.counter + 1)) * c.before.before.args.stride ≤ 7 * c.before.before.args.stride
+within : (c : tie.In-loop invariant_loop decreases_loop) → (8 - (c.before.loop.counter + 1)) * c.before.before.args.stride ≤ 7 * c.before.before.args.stride
 within c = mul-le-mul_right c.before.before.args.stride (omega arith)
 
 -- the byte has room for another bit
-so_far : (c : tie.In-loop invariant-loop decreases-loop) → c.before.loop.byte < 128
+so_far : (c : tie.In-loop invariant_loop decreases_loop) → c.before.loop.byte < 128
 so_far c =
     let s = c.before.before in
     let k = c.before.loop.counter in
@@ -40,35 +40,35 @@ so_far c =
     let p : 2 ^ k ≤ 2 ^ 7 = pow-le-pow_right (omega arith) small in
     omega (arith, c.before.loop.invariant.0, number_lt k (λ b. get_or s.args.bits.now (s.args.at + (8 - k + b) * s.args.stride) 0) (λ b. s.requires.1.low _), p)
 
-mul-from : tie.Need-overflow-mul-from invariant-loop decreases-loop
-mul-from c = omega (arith, c.requires.0)
+mul_from : tie.Need-overflow-mul-from invariant_loop decreases_loop
+mul_from c = omega (arith, c.requires.0)
 
-add-from : tie.Need-overflow-add-from invariant-loop decreases-loop
-add-from c = omega (arith, c.requires.0)
+add_from : tie.Need-overflow-add-from invariant_loop decreases_loop
+add_from c = omega (arith, c.requires.0)
 
-loop-holds : tie.Need-loop-init invariant-loop decreases-loop
-loop-holds c = (sym (number-zero _), refl, omega arith)
+loop_holds : tie.Need-loop-init invariant_loop decreases_loop
+loop_holds c = (sym (number_zero _), refl, omega arith)
 
-sub-from : tie.Need-overflow-sub-from invariant-loop decreases-loop
-sub-from c = omega (arith, reads_at c)
+sub_from : tie.Need-overflow-sub-from invariant_loop decreases_loop
+sub_from c = omega (arith, reads_at c)
 
-mul-byte : tie.Need-overflow-mul-byte invariant-loop decreases-loop
-mul-byte c = omega (arith, so_far c)
+mul_byte : tie.Need-overflow-mul-byte invariant_loop decreases_loop
+mul_byte c = omega (arith, so_far c)
 
-shared-slice-read-byte : tie.Need-shared-slice-read-byte invariant-loop decreases-loop
-shared-slice-read-byte c = omega (arith, reads_at c.before, within c.before, c.before.before.before.requires.0)
+shared_slice_read_byte : tie.Need-shared-slice-read-byte invariant_loop decreases_loop
+shared_slice_read_byte c = omega (arith, reads_at c.before, within c.before, c.before.before.before.requires.0)
 
-add-byte : tie.Need-overflow-add-byte invariant-loop decreases-loop
-add-byte c = omega (arith, so_far c.before, c.before.before.before.requires.1.low (c.before.before.loop.from - c.before.before.before.args.stride))
+add_byte : tie.Need-overflow-add-byte invariant_loop decreases_loop
+add_byte c = omega (arith, so_far c.before, c.before.before.before.requires.1.low (c.before.before.loop.from - c.before.before.before.args.stride))
 
-add-counter : tie.Need-overflow-add-counter invariant-loop decreases-loop
-add-counter c = omega arith
+add_counter : tie.Need-overflow-add-counter invariant_loop decreases_loop
+add_counter c = omega arith
 
-loop-less : tie.Need-loop-smaller invariant-loop decreases-loop
-loop-less c = omega arith
+loop_less : tie.Need-loop-smaller invariant_loop decreases_loop
+loop_less c = omega arith
 
-loop-again : tie.Need-loop-preserved invariant-loop decreases-loop
-loop-again c =
+loop_again : tie.Need-loop-preserved invariant_loop decreases_loop
+loop_again c =
     let u = c.before.before in
     let bits = u.before.args.bits.now in
     let at = u.before.args.at in
@@ -83,27 +83,27 @@ loop-again c =
       omega (arith, c.before.loop-test.true),
     )
 
-returns : tie.Need-returns invariant-loop decreases-loop
+returns : tie.Need-returns invariant_loop decreases_loop
 returns c =
     let u = c.before in
     let f : ℕ → ℕ = λ b. get_or u.before.args.bits.now (u.before.args.at + b * u.before.args.stride) 0 in
     let last : u.loop.counter ≡ 8 = omega (arith, u.loop.invariant.2, c.loop-test.false) in
-    u.loop.invariant.0 ∙ ap (λ k. number k (λ b. f (8 - k + b))) last ∙ number-cong 8 (λ b. f (0 + b)) f (λ b h. ap f (omega arith))
+    u.loop.invariant.0 ∙ ap (λ k. number k (λ b. f (8 - k + b))) last ∙ number_cong 8 (λ b. f (0 + b)) f (λ b h. ap f (omega arith))
 
-pub gather-spec : {M : Type 1} → statement M
-gather-spec =
+pub gather_spec : {M : Type 1} → statement M
+gather_spec =
     tie.close
     (tie.spec
-    invariant-loop
-    decreases-loop
-    mul-from
-    add-from
-    loop-holds
-    sub-from
-    mul-byte
-    shared-slice-read-byte
-    add-byte
-    add-counter
-    loop-less
-    loop-again
+    invariant_loop
+    decreases_loop
+    mul_from
+    add_from
+    loop_holds
+    sub_from
+    mul_byte
+    shared_slice_read_byte
+    add_byte
+    add_counter
+    loop_less
+    loop_again
     returns)

@@ -3,7 +3,7 @@
 use Prim.Native.Nat.{◌+◌, ◌*◌, ◌<◌}
 use native.Mathlib.Omega.{arith}
 use lib.ListN.{get_or}
-use Rattle.bits.proofs.Digits.{bitOf-half}
+use Rattle.bits.proofs.Digits.{bit_of_half}
 use Rattle.bits.proofs.half_word_bit.Statement.{statement}
 use Rattle.bits.proofs.half_word_bit.Tie as tie
 
@@ -18,54 +18,54 @@ two_bytes c =
 mul_low : tie.Need-overflow-mul-low
 mul_low c = omega arith
 
-shared-slice-read-low : tie.Need-shared-slice-read-low
-shared-slice-read-low c = omega arith
+shared_slice_read_low : tie.Need-shared-slice-read-low
+shared_slice_read_low c = omega arith
 
-cast-low : tie.Need-overflow-cast-low
-cast-low c = omega (arith, c.shared-slice-known.given (2 * c.before.args.u))
+cast_low : tie.Need-overflow-cast-low
+cast_low c = omega (arith, c.shared-slice-known.given (2 * c.before.args.u))
 
-mul-high : tie.Need-overflow-mul-high
-mul-high c = omega arith
+mul_high : tie.Need-overflow-mul-high
+mul_high c = omega arith
 
-add-high : tie.Need-overflow-add-high
-add-high c = omega arith
+add_high : tie.Need-overflow-add-high
+add_high c = omega arith
 
-shared-slice-read-high : tie.Need-shared-slice-read-high
-shared-slice-read-high c = omega arith
+shared_slice_read_high : tie.Need-shared-slice-read-high
+shared_slice_read_high c = omega arith
 
-cast-high : tie.Need-overflow-cast-high
-cast-high c = omega (arith, two_bytes c)
+cast_high : tie.Need-overflow-cast-high
+cast_high c = omega (arith, two_bytes c)
 
-mul-result : tie.Need-overflow-mul-result
-mul-result c = omega (arith, two_bytes c)
+mul_result : tie.Need-overflow-mul-result
+mul_result c = omega (arith, two_bytes c)
 
-add-result : tie.Need-overflow-add-result
-add-result c = omega (arith, two_bytes c)
+add_result : tie.Need-overflow-add-result
+add_result c = omega (arith, two_bytes c)
 
-shr-result : tie.Need-overflow-shr-result
-shr-result c = omega arith
+shr_result : tie.Need-overflow-shr-result
+shr_result c = omega arith
 
-cast-result : tie.Need-overflow-cast-result
-cast-result c = omega arith
+cast_result : tie.Need-overflow-cast-result
+cast_result c = omega arith
 
 returns : tie.Need-returns
 returns c =
     let s = c.before.before in
-    bitOf-half s.args.bytes.now (record { low = λ i. (c.shared-slice-known2.given i).fits }) s.args.u s.args.l s.requires.1
+    bit_of_half s.args.bytes.now (record { low = λ i. (c.shared-slice-known2.given i).fits }) s.args.u s.args.l s.requires.1
 
-pub half-word-bit-spec : {M : Type 1} → statement M
-half-word-bit-spec =
+pub half_word_bit_spec : {M : Type 1} → statement M
+half_word_bit_spec =
     tie.close
     (tie.spec
     mul_low
-    shared-slice-read-low
-    cast-low
-    mul-high
-    add-high
-    shared-slice-read-high
-    cast-high
-    mul-result
-    add-result
-    shr-result
-    cast-result
+    shared_slice_read_low
+    cast_low
+    mul_high
+    add_high
+    shared_slice_read_high
+    cast_high
+    mul_result
+    add_result
+    shr_result
+    cast_result
     returns)

@@ -10,142 +10,142 @@ use borrow.Author.Tests.{not-true, not-false}
 use Rattle.answers.specs.declared.Parameters.{Parameters}
 use Rattle.answers.specs.declared.SetChoice.TheVariants.{Known}
 use Rattle.answers.specs.Replies.{leaves}
-use Rattle.answers.specs.Sets.{setOf}
-use Rattle.rooms.proofs.RoomLaws.{part-long}
-use Rattle.answers.proofs.Exits.{unknown-set, wrong-length}
-use Rattle.answers.proofs.Lengths.{three-lengths}
-use Rattle.answers.proofs.SetLaws.{IsSet, known-set}
-use Rattle.calls_make.specs.Make.{makeReply, Make}
+use Rattle.answers.specs.Sets.{set_of}
+use Rattle.rooms.proofs.RoomLaws.{part_long}
+use Rattle.answers.proofs.Exits.{unknown_set_lem, wrong_length_lem}
+use Rattle.answers.proofs.Lengths.{three_lengths}
+use Rattle.answers.proofs.SetLaws.{IsSet, known_set}
+use Rattle.calls_make.specs.Make.{make_reply, Make}
 use Rattle.calls_make.proofs.Makes.{fits, owed}
 use Rattle.calls_make.proofs.make.Statement.{statement}
 use Rattle.calls_make.proofs.make.Tie as tie
 
 -- ---- earlier moments, each from a later one
 
-abbrev at-start : tie.After-s → tie.Start
-at-start c = c.before.before.before.before.before.before
+abbrev at_start : tie.After-s → tie.Start
+at_start c = c.before.before.before.before.before.before
 
-abbrev at-s : tie.Else1 → tie.After-s
-at-s c = c.before.before.before.before.before
+abbrev at_s : tie.Else1 → tie.After-s
+at_s c = c.before.before.before.before.before
 
-abbrev at-else1 : tie.After-numbers2 → tie.Else1
-at-else1 c = c.before.before.before
+abbrev at_else1 : tie.After-numbers2 → tie.Else1
+at_else1 c = c.before.before.before
 
-abbrev at-numbers2 : tie.After-make-in → tie.After-numbers2
-at-numbers2 c = c.before.before.before.before.before.before
+abbrev at_numbers2 : tie.After-make-in → tie.After-numbers2
+at_numbers2 c = c.before.before.before.before.before.before
 
 -- ---- what is known where the set is, and where the lengths are right
 
 abbrev chosen : tie.After-s → Parameters
 chosen c = c.s.given.0.0
 
-known : (c : tie.After-s) → setOf (at-start c).args.set ≡ Known (chosen c)
+known : (c : tie.After-s) → set_of (at_start c).args.set ≡ Known (chosen c)
 known c = sym c.before.before.set-of.ensures ∙ c.s.given.1
 
-set : (c : tie.After-s) → IsSet (at-start c).args.set (chosen c)
-set c = known-set _ _ (known c)
+set : (c : tie.After-s) → IsSet (at_start c).args.set (chosen c)
+set c = known_set _ _ (known c)
 
 -- n places are in a room for numbers
 n_room : (c : tie.After-s) → (chosen c).n ≤ 1152
 n_room c = (set c).small
 
-fit : (c : tie.Else1) → let s = (at-start (at-s c)).args in
-    fits (length s.seed.now) (length s.public.now) (length s.private.now) (chosen (at-s c)) ≡ true
+fit : (c : tie.Else1) → let s = (at_start (at_s c)).args in
+    fits (length s.seed.now) (length s.public.now) (length s.private.now) (chosen (at_s c)) ≡ true
 fit c = not-false _ c.if1.false
 
-lengths : (c : tie.Else1) → let s = (at-start (at-s c)).args in let p = chosen (at-s c) in
+lengths : (c : tie.Else1) → let s = (at_start (at_s c)).args in let p = chosen (at_s c) in
     (length s.seed.now ≡ p.seed) × (length s.public.now ≡ p.packed) × (length s.private.now ≡ p.private)
-lengths c = three-lengths _ _ _ _ _ _ (fit c)
+lengths c = three_lengths _ _ _ _ _ _ (fit c)
 
 -- ---- the needs
 
-set-of-requires : tie.Need-set-of-requires
-set-of-requires c κs = search rules
+set_of_requires : tie.Need-set-of-requires
+set_of_requires c κs = search rules
 
 enum_told : tie.Need-enum-told
 enum_told c = search rules
 
-enum-known-s : tie.Need-enum-known-s
-enum-known-s c = search rules
+enum_known_s : tie.Need-enum-known-s
+enum_known_s c = search rules
 
 returns : tie.Need-returns
-unfolding Make makeReply leaves
+unfolding Make make_reply leaves
 returns c =
     let k = c.before.before.before.before.before in
-    let s = (at-start k).args in
-    wrong-length _ s.set _ _ _ (known k) (not-true _ c.if1.true) (refl, refl)
+    let s = (at_start k).args in
+    wrong_length_lem _ s.set _ _ _ (known k) (not-true _ c.if1.true) (refl, refl)
 
-powers-requires : tie.Need-powers-requires
-powers-requires c κs = search rules
+powers_requires : tie.Need-powers-requires
+powers_requires c κs = search rules
 
-numbers-requires : tie.Need-numbers-requires
-numbers-requires c κs = search rules
+numbers_requires : tie.Need-numbers-requires
+numbers_requires c κs = search rules
 
-numbers-requires-2 : tie.Need-numbers-requires-2
-numbers-requires-2 c κs = search rules
+numbers_requires_2 : tie.Need-numbers-requires-2
+numbers_requires_2 c κs = search rules
 
-array-borrow-prefix-f : tie.Need-array-borrow-prefix-f
-array-borrow-prefix-f c =
-    omega (arith, n_room (at-s (at-else1 c.before)), c.before.before.numbers.ensures)
+array_borrow_prefix_f : tie.Need-array-borrow-prefix-f
+array_borrow_prefix_f c =
+    omega (arith, n_room (at_s (at_else1 c.before)), c.before.before.numbers.ensures)
 
-slice-aggregate-make-in : tie.Need-slice-aggregate-make-in
-slice-aggregate-make-in c =
-    sym (part-long _ 1152 _ c.before.before.before.numbers.ensures (n_room (at-s (at-else1 c.before.before))))
+slice_aggregate_make_in : tie.Need-slice-aggregate-make-in
+slice_aggregate_make_in c =
+    sym (part_long _ 1152 _ c.before.before.before.numbers.ensures (n_room (at_s (at_else1 c.before.before))))
 
-array-borrow-prefix-g : tie.Need-array-borrow-prefix-g
-array-borrow-prefix-g c =
-    omega (arith, n_room (at-s (at-else1 c.before.before)), c.before.before.numbers2.ensures)
+array_borrow_prefix_g : tie.Need-array-borrow-prefix-g
+array_borrow_prefix_g c =
+    omega (arith, n_room (at_s (at_else1 c.before.before)), c.before.before.numbers2.ensures)
 
-slice-aggregate-make-in-2 : tie.Need-slice-aggregate-make-in-2
-slice-aggregate-make-in-2 c =
-    sym (part-long _ 1152 _ c.before.before.before.numbers2.ensures (n_room (at-s (at-else1 c.before.before.before))))
+slice_aggregate_make_in_2 : tie.Need-slice-aggregate-make-in-2
+slice_aggregate_make_in_2 c =
+    sym (part_long _ 1152 _ c.before.before.before.numbers2.ensures (n_room (at_s (at_else1 c.before.before.before))))
 
-make-in-requires : tie.Need-make-in-requires
-make-in-requires c κs =
-    let i = set (at-s (at-else1 c.before.before.before.before.before)) in
-    let l = lengths (at-else1 c.before.before.before.before.before) in
-    let n = n_room (at-s (at-else1 c.before.before.before.before.before)) in (
+make_in_requires : tie.Need-make-in-requires
+make_in_requires c κs =
+    let i = set (at_s (at_else1 c.before.before.before.before.before)) in
+    let l = lengths (at_else1 c.before.before.before.before.before) in
+    let n = n_room (at_s (at_else1 c.before.before.before.before.before)) in (
       (record { turns = i.turns; table = c.before.before.before.before.before.before.before.powers.ensures }, omega (arith, i.eighth, i.seed, l.0), omega (arith, i.eighth, i.words), omega (arith, n, i.whole)),
       (
-        (part-long _ 1152 _ c.before.before.before.before.before.before.numbers.ensures n ∙ i.whole, part-long _ 1152 _ c.before.before.before.before.before.numbers2.ensures n ∙ i.whole),
+        (part_long _ 1152 _ c.before.before.before.before.before.before.numbers.ensures n ∙ i.whole, part_long _ 1152 _ c.before.before.before.before.before.numbers2.ensures n ∙ i.whole),
         (l.1 ∙ i.packed, omega (arith, l.2, i.private, i.packed)),
       ),
     )
 
-returns-2 : tie.Need-returns-2
-unfolding Make makeReply leaves
-returns-2 c =
+returns_2 : tie.Need-returns-2
+unfolding Make make_reply leaves
+returns_2 c =
     let s = c.before.before.before.before.before.before.args in
-    unknown-set _ s.set _ _ (sym c.before.before.set-of.ensures ∙ c.enum_told.given.1) (refl, refl)
+    unknown_set_lem _ s.set _ _ (sym c.before.before.set-of.ensures ∙ c.enum_told.given.1) (refl, refl)
 
 same_length : tie.Need-same-length
 same_length c = search rules
 
-same-length-2 : tie.Need-same-length-2
-same-length-2 c = search rules
+same_length_2 : tie.Need-same-length-2
+same_length_2 c = search rules
 
-returns-3 : tie.Need-returns-3
-returns-3 c =
-    let s = (at-start (at-s (at-else1 (at-numbers2 c.before.before.before.before.before.before)))).args in
-    owed s.seed.now s.public.now s.private.now _ _ s.set (chosen (at-s (at-else1 (at-numbers2 c.before.before.before.before.before.before)))) (known (at-s (at-else1 (at-numbers2 c.before.before.before.before.before.before)))) (fit (at-else1 (at-numbers2 c.before.before.before.before.before.before))) _ c.before.before.before.before.before.before.make-in.ensures
+returns_3 : tie.Need-returns-3
+returns_3 c =
+    let s = (at_start (at_s (at_else1 (at_numbers2 c.before.before.before.before.before.before)))).args in
+    owed s.seed.now s.public.now s.private.now _ _ s.set (chosen (at_s (at_else1 (at_numbers2 c.before.before.before.before.before.before)))) (known (at_s (at_else1 (at_numbers2 c.before.before.before.before.before.before)))) (fit (at_else1 (at_numbers2 c.before.before.before.before.before.before))) _ c.before.before.before.before.before.before.make-in.ensures
 
 pub make_spec : {M : Type 1} → statement M
 make_spec =
     tie.close
     (tie.spec
-    set-of-requires
+    set_of_requires
     enum_told
-    enum-known-s
+    enum_known_s
     returns
-    powers-requires
-    numbers-requires
-    numbers-requires-2
-    array-borrow-prefix-f
-    slice-aggregate-make-in
-    array-borrow-prefix-g
-    slice-aggregate-make-in-2
-    make-in-requires
-    returns-2
+    powers_requires
+    numbers_requires
+    numbers_requires_2
+    array_borrow_prefix_f
+    slice_aggregate_make_in
+    array_borrow_prefix_g
+    slice_aggregate_make_in_2
+    make_in_requires
+    returns_2
     same_length
-    same-length-2
-    returns-3)
+    same_length_2
+    returns_3)

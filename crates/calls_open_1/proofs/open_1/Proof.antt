@@ -10,175 +10,175 @@ use borrow.Author.Tests.{not-true, not-false}
 use Rattle.answers.specs.declared.Parameters.{Parameters}
 use Rattle.answers.specs.declared.SetChoice.TheVariants.{Known}
 use Rattle.answers.specs.Replies.{leaves}
-use Rattle.answers.specs.Sets.{setOf}
-use Rattle.rooms.proofs.RoomLaws.{part-long}
-use Rattle.answers.proofs.Exits.{unknown-set, wrong-length}
-use Rattle.answers.proofs.SetLaws.{IsSet, known-set}
-use Rattle.calls_open_1.specs.OpenOne.{openOneReply, OpenOne}
+use Rattle.answers.specs.Sets.{set_of}
+use Rattle.rooms.proofs.RoomLaws.{part_long}
+use Rattle.answers.proofs.Exits.{unknown_set_lem, wrong_length_lem}
+use Rattle.answers.proofs.SetLaws.{IsSet, known_set}
+use Rattle.calls_open_1.specs.OpenOne.{open_one_reply, OpenOne}
 use Rattle.calls_open_1.proofs.OpenOnes.{fits, right, owed}
 use Rattle.calls_open_1.proofs.open_1.Statement.{statement}
 use Rattle.calls_open_1.proofs.open_1.Tie as tie
 
 -- ---- earlier moments, each from a later one
 
-abbrev at-start : tie.After-s → tie.Start
-at-start c = c.before.before.before.before.before.before.before
+abbrev at_start : tie.After-s → tie.Start
+at_start c = c.before.before.before.before.before.before.before
 
-abbrev at-s : tie.Else1 → tie.After-s
-at-s c = c.before.before.before.before.before.before
+abbrev at_s : tie.Else1 → tie.After-s
+at_s c = c.before.before.before.before.before.before
 
-abbrev at-else1 : tie.After-numbers4 → tie.Else1
-at-else1 c = c.before.before.before.before.before
+abbrev at_else1 : tie.After-numbers4 → tie.Else1
+at_else1 c = c.before.before.before.before.before
 
-abbrev at-numbers4 : tie.After-open-1-in → tie.After-numbers4
-at-numbers4 c = c.before.before.before.before.before.before.before.before
+abbrev at_numbers4 : tie.After-open-1-in → tie.After-numbers4
+at_numbers4 c = c.before.before.before.before.before.before.before.before
 
 -- ---- what is known where the set is, and where the lengths are right
 
 abbrev chosen : tie.After-s → Parameters
 chosen c = c.s.given.0.0
 
-known : (c : tie.After-s) → setOf (at-start c).args.set ≡ Known (chosen c)
+known : (c : tie.After-s) → set_of (at_start c).args.set ≡ Known (chosen c)
 known c = sym c.before.before.set-of.ensures ∙ c.s.given.1
 
-set : (c : tie.After-s) → IsSet (at-start c).args.set (chosen c)
-set c = known-set _ _ (known c)
+set : (c : tie.After-s) → IsSet (at_start c).args.set (chosen c)
+set c = known_set _ _ (known c)
 
 -- n places are in a room for numbers
 n_room : (c : tie.After-s) → (chosen c).n ≤ 1152
 n_room c = (set c).small
 
-fit : (c : tie.Else1) → let s = (at-start (at-s c)).args in
-    fits (length s.private.now) (length s.cipher.now) (length s.marks.now) (length s.image.now) (chosen (at-s c)) ≡ true
+fit : (c : tie.Else1) → let s = (at_start (at_s c)).args in
+    fits (length s.private.now) (length s.cipher.now) (length s.marks.now) (length s.image.now) (chosen (at_s c)) ≡ true
 fit c = not-false _ c.if1.false
 
-lengths : (c : tie.Else1) → let s = (at-start (at-s c)).args in let p = chosen (at-s c) in
+lengths : (c : tie.Else1) → let s = (at_start (at_s c)).args in let p = chosen (at_s c) in
     (length s.private.now ≡ p.private) × (length s.cipher.now ≡ p.packed) × (length s.marks.now ≡ p.n) × (length s.image.now ≡ p.packed)
-lengths c = let s = (at-start (at-s c)).args in right (length s.private.now) (length s.cipher.now) (length s.marks.now) (length s.image.now) (chosen (at-s c)) (fit c)
+lengths c = let s = (at_start (at_s c)).args in right (length s.private.now) (length s.cipher.now) (length s.marks.now) (length s.image.now) (chosen (at_s c)) (fit c)
 
 -- ---- the needs
 
-set-of-requires : tie.Need-set-of-requires
-set-of-requires c κs = search rules
+set_of_requires : tie.Need-set-of-requires
+set_of_requires c κs = search rules
 
 enum_told : tie.Need-enum-told
 enum_told c = search rules
 
-enum-known-s : tie.Need-enum-known-s
-enum-known-s c = search rules
+enum_known_s : tie.Need-enum-known-s
+enum_known_s c = search rules
 
 returns : tie.Need-returns
-unfolding OpenOne openOneReply leaves
+unfolding OpenOne open_one_reply leaves
 returns c =
     let k = c.before.before.before.before.before.before in
-    let s = (at-start k).args in
-    wrong-length _ s.set _ _ _ (known k) (not-true _ c.if1.true) (refl, refl)
+    let s = (at_start k).args in
+    wrong_length_lem _ s.set _ _ _ (known k) (not-true _ c.if1.true) (refl, refl)
 
-powers-requires : tie.Need-powers-requires
-powers-requires c κs = search rules
+powers_requires : tie.Need-powers-requires
+powers_requires c κs = search rules
 
-numbers-requires : tie.Need-numbers-requires
-numbers-requires c κs = search rules
+numbers_requires : tie.Need-numbers-requires
+numbers_requires c κs = search rules
 
-numbers-requires-2 : tie.Need-numbers-requires-2
-numbers-requires-2 c κs = search rules
+numbers_requires_2 : tie.Need-numbers-requires-2
+numbers_requires_2 c κs = search rules
 
-numbers-requires-3 : tie.Need-numbers-requires-3
-numbers-requires-3 c κs = search rules
+numbers_requires_3 : tie.Need-numbers-requires-3
+numbers_requires_3 c κs = search rules
 
-numbers-requires-4 : tie.Need-numbers-requires-4
-numbers-requires-4 c κs = search rules
+numbers_requires_4 : tie.Need-numbers-requires-4
+numbers_requires_4 c κs = search rules
 
-array-borrow-prefix-f : tie.Need-array-borrow-prefix-f
-array-borrow-prefix-f c =
-    omega (arith, n_room (at-s (at-else1 c.before)), c.before.before.before.before.numbers.ensures)
+array_borrow_prefix_f : tie.Need-array-borrow-prefix-f
+array_borrow_prefix_f c =
+    omega (arith, n_room (at_s (at_else1 c.before)), c.before.before.before.before.numbers.ensures)
 
-slice-aggregate-open-1-in : tie.Need-slice-aggregate-open-1-in
-slice-aggregate-open-1-in c =
-    sym (part-long _ 1152 _ c.before.before.before.before.before.numbers.ensures (n_room (at-s (at-else1 c.before.before))))
+slice_aggregate_open_1_in : tie.Need-slice-aggregate-open-1-in
+slice_aggregate_open_1_in c =
+    sym (part_long _ 1152 _ c.before.before.before.before.before.numbers.ensures (n_room (at_s (at_else1 c.before.before))))
 
-array-borrow-prefix-inverse : tie.Need-array-borrow-prefix-inverse
-array-borrow-prefix-inverse c =
-    omega (arith, n_room (at-s (at-else1 c.before.before)), c.before.before.before.before.numbers2.ensures)
+array_borrow_prefix_inverse : tie.Need-array-borrow-prefix-inverse
+array_borrow_prefix_inverse c =
+    omega (arith, n_room (at_s (at_else1 c.before.before)), c.before.before.before.before.numbers2.ensures)
 
-slice-aggregate-open-1-in-2 : tie.Need-slice-aggregate-open-1-in-2
-slice-aggregate-open-1-in-2 c =
-    sym (part-long _ 1152 _ c.before.before.before.before.before.numbers2.ensures (n_room (at-s (at-else1 c.before.before.before))))
+slice_aggregate_open_1_in_2 : tie.Need-slice-aggregate-open-1-in-2
+slice_aggregate_open_1_in_2 c =
+    sym (part_long _ 1152 _ c.before.before.before.before.before.numbers2.ensures (n_room (at_s (at_else1 c.before.before.before))))
 
-array-borrow-prefix-c : tie.Need-array-borrow-prefix-c
-array-borrow-prefix-c c =
-    omega (arith, n_room (at-s (at-else1 c.before.before.before)), c.before.before.before.before.numbers3.ensures)
+array_borrow_prefix_c : tie.Need-array-borrow-prefix-c
+array_borrow_prefix_c c =
+    omega (arith, n_room (at_s (at_else1 c.before.before.before)), c.before.before.before.before.numbers3.ensures)
 
-slice-aggregate-open-1-in-3 : tie.Need-slice-aggregate-open-1-in-3
-slice-aggregate-open-1-in-3 c =
-    sym (part-long _ 1152 _ c.before.before.before.before.before.numbers3.ensures (n_room (at-s (at-else1 c.before.before.before.before))))
+slice_aggregate_open_1_in_3 : tie.Need-slice-aggregate-open-1-in-3
+slice_aggregate_open_1_in_3 c =
+    sym (part_long _ 1152 _ c.before.before.before.before.before.numbers3.ensures (n_room (at_s (at_else1 c.before.before.before.before))))
 
-array-borrow-prefix-r : tie.Need-array-borrow-prefix-r
-array-borrow-prefix-r c =
-    omega (arith, n_room (at-s (at-else1 c.before.before.before.before)), c.before.before.before.before.numbers4.ensures)
+array_borrow_prefix_r : tie.Need-array-borrow-prefix-r
+array_borrow_prefix_r c =
+    omega (arith, n_room (at_s (at_else1 c.before.before.before.before)), c.before.before.before.before.numbers4.ensures)
 
-slice-aggregate-open-1-in-4 : tie.Need-slice-aggregate-open-1-in-4
-slice-aggregate-open-1-in-4 c =
-    sym (part-long _ 1152 _ c.before.before.before.before.before.numbers4.ensures (n_room (at-s (at-else1 c.before.before.before.before.before))))
+slice_aggregate_open_1_in_4 : tie.Need-slice-aggregate-open-1-in-4
+slice_aggregate_open_1_in_4 c =
+    sym (part_long _ 1152 _ c.before.before.before.before.before.numbers4.ensures (n_room (at_s (at_else1 c.before.before.before.before.before))))
 
-open-1-in-requires : tie.Need-open-1-in-requires
-open-1-in-requires c κs =
-    let i = set (at-s (at-else1 c.before.before.before.before.before.before.before)) in
-    let l = lengths (at-else1 c.before.before.before.before.before.before.before) in
-    let n = n_room (at-s (at-else1 c.before.before.before.before.before.before.before)) in (
+open_1_in_requires : tie.Need-open-1-in-requires
+open_1_in_requires c κs =
+    let i = set (at_s (at_else1 c.before.before.before.before.before.before.before)) in
+    let l = lengths (at_else1 c.before.before.before.before.before.before.before) in
+    let n = n_room (at_s (at_else1 c.before.before.before.before.before.before.before)) in (
       (record { turns = i.turns; table = c.before.before.before.before.before.before.before.before.before.before.before.powers.ensures }, omega (arith, n, i.whole), omega (arith, l.0, i.private, i.packed), l.1 ∙ i.packed),
       (
         (
-          part-long _ 1152 _ c.before.before.before.before.before.before.before.before.before.before.numbers.ensures n ∙ i.whole,
-          part-long _ 1152 _ c.before.before.before.before.before.before.before.before.before.numbers2.ensures n ∙ i.whole,
-          part-long _ 1152 _ c.before.before.before.before.before.before.before.before.numbers3.ensures n ∙ i.whole,
-          part-long _ 1152 _ c.before.before.before.before.before.before.before.numbers4.ensures n ∙ i.whole,
+          part_long _ 1152 _ c.before.before.before.before.before.before.before.before.before.before.numbers.ensures n ∙ i.whole,
+          part_long _ 1152 _ c.before.before.before.before.before.before.before.before.before.numbers2.ensures n ∙ i.whole,
+          part_long _ 1152 _ c.before.before.before.before.before.before.before.before.numbers3.ensures n ∙ i.whole,
+          part_long _ 1152 _ c.before.before.before.before.before.before.before.numbers4.ensures n ∙ i.whole,
         ),
         (l.2 ∙ i.whole, l.3 ∙ i.packed),
       ),
     )
 
-returns-2 : tie.Need-returns-2
-unfolding OpenOne openOneReply leaves
-returns-2 c =
+returns_2 : tie.Need-returns-2
+unfolding OpenOne open_one_reply leaves
+returns_2 c =
     let s = c.before.before.before.before.before.before.before.args in
-    unknown-set _ s.set _ _ (sym c.before.before.set-of.ensures ∙ c.enum_told.given.1) (refl, refl)
+    unknown_set_lem _ s.set _ _ (sym c.before.before.set-of.ensures ∙ c.enum_told.given.1) (refl, refl)
 
 same_length : tie.Need-same-length
 same_length c = search rules
 
-same-length-2 : tie.Need-same-length-2
-same-length-2 c = search rules
+same_length_2 : tie.Need-same-length-2
+same_length_2 c = search rules
 
-returns-3 : tie.Need-returns-3
-returns-3 c =
-    let s = (at-start (at-s (at-else1 (at-numbers4 c.before.before.before.before.before.before.before.before)))).args in
-    owed s.private.now s.cipher.now s.marks.now s.image.now _ _ s.set (chosen (at-s (at-else1 (at-numbers4 c.before.before.before.before.before.before.before.before)))) (known (at-s (at-else1 (at-numbers4 c.before.before.before.before.before.before.before.before)))) (fit (at-else1 (at-numbers4 c.before.before.before.before.before.before.before.before))) _
+returns_3 : tie.Need-returns-3
+returns_3 c =
+    let s = (at_start (at_s (at_else1 (at_numbers4 c.before.before.before.before.before.before.before.before)))).args in
+    owed s.private.now s.cipher.now s.marks.now s.image.now _ _ s.set (chosen (at_s (at_else1 (at_numbers4 c.before.before.before.before.before.before.before.before)))) (known (at_s (at_else1 (at_numbers4 c.before.before.before.before.before.before.before.before)))) (fit (at_else1 (at_numbers4 c.before.before.before.before.before.before.before.before))) _
     c.before.before.before.before.before.before.before.before.open-1-in.ensures
 
-pub open-1-spec : {M : Type 1} → statement M
-open-1-spec =
+pub open_1_spec : {M : Type 1} → statement M
+open_1_spec =
     tie.close
     (tie.spec
-    set-of-requires
+    set_of_requires
     enum_told
-    enum-known-s
+    enum_known_s
     returns
-    powers-requires
-    numbers-requires
-    numbers-requires-2
-    numbers-requires-3
-    numbers-requires-4
-    array-borrow-prefix-f
-    slice-aggregate-open-1-in
-    array-borrow-prefix-inverse
-    slice-aggregate-open-1-in-2
-    array-borrow-prefix-c
-    slice-aggregate-open-1-in-3
-    array-borrow-prefix-r
-    slice-aggregate-open-1-in-4
-    open-1-in-requires
-    returns-2
+    powers_requires
+    numbers_requires
+    numbers_requires_2
+    numbers_requires_3
+    numbers_requires_4
+    array_borrow_prefix_f
+    slice_aggregate_open_1_in
+    array_borrow_prefix_inverse
+    slice_aggregate_open_1_in_2
+    array_borrow_prefix_c
+    slice_aggregate_open_1_in_3
+    array_borrow_prefix_r
+    slice_aggregate_open_1_in_4
+    open_1_in_requires
+    returns_2
     same_length
-    same-length-2
-    returns-3)
+    same_length_2
+    returns_3)

@@ -10,98 +10,98 @@ use borrow.Author.Tests.{not-true, not-false}
 use Rattle.answers.specs.declared.Parameters.{Parameters}
 use Rattle.answers.specs.declared.SetChoice.TheVariants.{Known}
 use Rattle.answers.specs.Replies.{leaves}
-use Rattle.answers.specs.Sets.{setOf}
-use Rattle.rooms.proofs.RoomLaws.{part-long}
-use Rattle.answers.proofs.Exits.{unknown-set, wrong-length}
-use Rattle.answers.proofs.Lengths.{three-lengths}
-use Rattle.answers.proofs.SetLaws.{IsSet, known-set}
-use Rattle.calls_open_3.specs.OpenThree.{openThreeReply, OpenThree}
+use Rattle.answers.specs.Sets.{set_of}
+use Rattle.rooms.proofs.RoomLaws.{part_long}
+use Rattle.answers.proofs.Exits.{unknown_set_lem, wrong_length_lem}
+use Rattle.answers.proofs.Lengths.{three_lengths}
+use Rattle.answers.proofs.SetLaws.{IsSet, known_set}
+use Rattle.calls_open_3.specs.OpenThree.{open_three_reply, OpenThree}
 use Rattle.calls_open_3.proofs.OpenThrees.{fits, owed}
 use Rattle.calls_open_3.proofs.open_3.Statement.{statement}
 use Rattle.calls_open_3.proofs.open_3.Tie as tie
 
 -- ---- earlier moments, each from a later one
 
-abbrev at-start : tie.After-s → tie.Start
-at-start c = c.before.before.before.before.before.before
+abbrev at_start : tie.After-s → tie.Start
+at_start c = c.before.before.before.before.before.before
 
-abbrev at-s : tie.Else1 → tie.After-s
-at-s c = c.before.before.before.before.before
+abbrev at_s : tie.Else1 → tie.After-s
+at_s c = c.before.before.before.before.before
 
-abbrev at-else1 : tie.After-numbers2 → tie.Else1
-at-else1 c = c.before.before.before
+abbrev at_else1 : tie.After-numbers2 → tie.Else1
+at_else1 c = c.before.before.before
 
 -- ---- what is known where the set is, and where the lengths are right
 
 abbrev chosen : tie.After-s → Parameters
 chosen c = c.s.given.0.0
 
-known : (c : tie.After-s) → setOf (at-start c).args.set ≡ Known (chosen c)
+known : (c : tie.After-s) → set_of (at_start c).args.set ≡ Known (chosen c)
 known c = sym c.before.before.set-of.ensures ∙ c.s.given.1
 
-set : (c : tie.After-s) → IsSet (at-start c).args.set (chosen c)
-set c = known-set _ _ (known c)
+set : (c : tie.After-s) → IsSet (at_start c).args.set (chosen c)
+set c = known_set _ _ (known c)
 
 -- n places are in a room for numbers
 n_room : (c : tie.After-s) → (chosen c).n ≤ 1152
 n_room c = (set c).small
 
-fit : (c : tie.Else1) → let s = (at-start (at-s c)).args in
-    fits (length s.image.now) (length s.hblock.now) (length s.key.now) (chosen (at-s c)) ≡ true
+fit : (c : tie.Else1) → let s = (at_start (at_s c)).args in
+    fits (length s.image.now) (length s.hblock.now) (length s.key.now) (chosen (at_s c)) ≡ true
 fit c = not-false _ c.if1.false
 
-lengths : (c : tie.Else1) → let s = (at-start (at-s c)).args in let p = chosen (at-s c) in
+lengths : (c : tie.Else1) → let s = (at_start (at_s c)).args in let p = chosen (at_s c) in
     (length s.image.now ≡ p.packed) × (length s.hblock.now ≡ p.hblock) × (length s.key.now ≡ p.key)
-lengths c = three-lengths _ _ _ _ _ _ (fit c)
+lengths c = three_lengths _ _ _ _ _ _ (fit c)
 
 -- ---- the needs
 
-set-of-requires : tie.Need-set-of-requires
-set-of-requires c κs = search rules
+set_of_requires : tie.Need-set-of-requires
+set_of_requires c κs = search rules
 
 enum_told : tie.Need-enum-told
 enum_told c = search rules
 
-enum-known-s : tie.Need-enum-known-s
-enum-known-s c = search rules
+enum_known_s : tie.Need-enum-known-s
+enum_known_s c = search rules
 
 returns : tie.Need-returns
-unfolding OpenThree openThreeReply leaves
+unfolding OpenThree open_three_reply leaves
 returns c =
     let k = c.before.before.before.before.before in
-    let s = (at-start k).args in
-    wrong-length _ s.set _ _ _ (known k) (not-true _ c.if1.true) refl
+    let s = (at_start k).args in
+    wrong_length_lem _ s.set _ _ _ (known k) (not-true _ c.if1.true) refl
 
-powers-requires : tie.Need-powers-requires
-powers-requires c κs = search rules
+powers_requires : tie.Need-powers-requires
+powers_requires c κs = search rules
 
-numbers-requires : tie.Need-numbers-requires
-numbers-requires c κs = search rules
+numbers_requires : tie.Need-numbers-requires
+numbers_requires c κs = search rules
 
-numbers-requires-2 : tie.Need-numbers-requires-2
-numbers-requires-2 c κs = search rules
+numbers_requires_2 : tie.Need-numbers-requires-2
+numbers_requires_2 c κs = search rules
 
-array-borrow-prefix-lent : tie.Need-array-borrow-prefix-lent
-array-borrow-prefix-lent c =
-    omega (arith, n_room (at-s (at-else1 c.before)), c.before.before.numbers.ensures)
+array_borrow_prefix_lent : tie.Need-array-borrow-prefix-lent
+array_borrow_prefix_lent c =
+    omega (arith, n_room (at_s (at_else1 c.before)), c.before.before.numbers.ensures)
 
-slice-aggregate-open-3-in : tie.Need-slice-aggregate-open-3-in
-slice-aggregate-open-3-in c =
-    sym (part-long _ 1152 _ c.before.before.before.numbers.ensures (n_room (at-s (at-else1 c.before.before))))
+slice_aggregate_open_3_in : tie.Need-slice-aggregate-open-3-in
+slice_aggregate_open_3_in c =
+    sym (part_long _ 1152 _ c.before.before.before.numbers.ensures (n_room (at_s (at_else1 c.before.before))))
 
-array-borrow-prefix-r : tie.Need-array-borrow-prefix-r
-array-borrow-prefix-r c =
-    omega (arith, n_room (at-s (at-else1 c.before.before)), c.before.before.numbers2.ensures)
+array_borrow_prefix_r : tie.Need-array-borrow-prefix-r
+array_borrow_prefix_r c =
+    omega (arith, n_room (at_s (at_else1 c.before.before)), c.before.before.numbers2.ensures)
 
-slice-aggregate-open-3-in-2 : tie.Need-slice-aggregate-open-3-in-2
-slice-aggregate-open-3-in-2 c =
-    sym (part-long _ 1152 _ c.before.before.before.numbers2.ensures (n_room (at-s (at-else1 c.before.before.before))))
+slice_aggregate_open_3_in_2 : tie.Need-slice-aggregate-open-3-in-2
+slice_aggregate_open_3_in_2 c =
+    sym (part_long _ 1152 _ c.before.before.before.numbers2.ensures (n_room (at_s (at_else1 c.before.before.before))))
 
-open-3-in-requires : tie.Need-open-3-in-requires
-open-3-in-requires c κs =
-    let i = set (at-s (at-else1 c.before.before.before.before)) in
-    let l = lengths (at-else1 c.before.before.before.before) in
-    let n = n_room (at-s (at-else1 c.before.before.before.before)) in (
+open_3_in_requires : tie.Need-open-3-in-requires
+open_3_in_requires c κs =
+    let i = set (at_s (at_else1 c.before.before.before.before)) in
+    let l = lengths (at_else1 c.before.before.before.before) in
+    let n = n_room (at_s (at_else1 c.before.before.before.before)) in (
       (
         record { turns = i.turns; table = c.before.before.before.before.before.before.powers.ensures },
         omega (arith, i.eighth, i.words),
@@ -109,42 +109,42 @@ open-3-in-requires c κs =
         l.0 ∙ i.packed,
       ),
       (
-        part-long _ 1152 _ c.before.before.before.before.before.numbers.ensures n ∙ i.whole,
-        part-long _ 1152 _ c.before.before.before.before.numbers2.ensures n ∙ i.whole,
+        part_long _ 1152 _ c.before.before.before.before.before.numbers.ensures n ∙ i.whole,
+        part_long _ 1152 _ c.before.before.before.before.numbers2.ensures n ∙ i.whole,
         l.2 ∙ i.key,
       ),
     )
 
-returns-2 : tie.Need-returns-2
-unfolding OpenThree openThreeReply leaves
-returns-2 c =
+returns_2 : tie.Need-returns-2
+unfolding OpenThree open_three_reply leaves
+returns_2 c =
     let s = c.before.before.before.before.before.before.args in
-    unknown-set _ s.set _ _ (sym c.before.before.set-of.ensures ∙ c.enum_told.given.1) refl
+    unknown_set_lem _ s.set _ _ (sym c.before.before.set-of.ensures ∙ c.enum_told.given.1) refl
 
 same_length : tie.Need-same-length
 same_length c = search rules
 
-returns-3 : tie.Need-returns-3
-returns-3 c =
-    let s = (at-start (at-s (at-else1 c.before.before.before.before.before.before.before.before.before))).args in
-    owed s.image.now s.hblock.now s.key.now _ s.set (chosen (at-s (at-else1 c.before.before.before.before.before.before.before.before.before))) (known (at-s (at-else1 c.before.before.before.before.before.before.before.before.before))) (fit (at-else1 c.before.before.before.before.before.before.before.before.before)) _ c.before.before.before.before.open-3-in.ensures
+returns_3 : tie.Need-returns-3
+returns_3 c =
+    let s = (at_start (at_s (at_else1 c.before.before.before.before.before.before.before.before.before))).args in
+    owed s.image.now s.hblock.now s.key.now _ s.set (chosen (at_s (at_else1 c.before.before.before.before.before.before.before.before.before))) (known (at_s (at_else1 c.before.before.before.before.before.before.before.before.before))) (fit (at_else1 c.before.before.before.before.before.before.before.before.before)) _ c.before.before.before.before.open-3-in.ensures
 
-pub open-3-spec : {M : Type 1} → statement M
-open-3-spec =
+pub open_3_spec : {M : Type 1} → statement M
+open_3_spec =
     tie.close
     (tie.spec
-    set-of-requires
+    set_of_requires
     enum_told
-    enum-known-s
+    enum_known_s
     returns
-    powers-requires
-    numbers-requires
-    numbers-requires-2
-    array-borrow-prefix-lent
-    slice-aggregate-open-3-in
-    array-borrow-prefix-r
-    slice-aggregate-open-3-in-2
-    open-3-in-requires
-    returns-2
+    powers_requires
+    numbers_requires
+    numbers_requires_2
+    array_borrow_prefix_lent
+    slice_aggregate_open_3_in
+    array_borrow_prefix_r
+    slice_aggregate_open_3_in_2
+    open_3_in_requires
+    returns_2
     same_length
-    returns-3)
+    returns_3)

@@ -10,118 +10,118 @@ use borrow.Author.Tests.{not-true, not-false}
 use Rattle.answers.specs.declared.Parameters.{Parameters}
 use Rattle.answers.specs.declared.SetChoice.TheVariants.{Known}
 use Rattle.answers.specs.Replies.{leaves}
-use Rattle.answers.specs.Sets.{setOf}
-use Rattle.rooms.proofs.RoomLaws.{part-long}
-use Rattle.answers.proofs.Exits.{unknown-set, wrong-length}
-use Rattle.answers.proofs.Lengths.{two-lengths}
-use Rattle.answers.proofs.SetLaws.{IsSet, known-set}
-use Rattle.calls_r_image.specs.RImage.{rImageReply, RImage}
+use Rattle.answers.specs.Sets.{set_of}
+use Rattle.rooms.proofs.RoomLaws.{part_long}
+use Rattle.answers.proofs.Exits.{unknown_set_lem, wrong_length_lem}
+use Rattle.answers.proofs.Lengths.{two_lengths}
+use Rattle.answers.proofs.SetLaws.{IsSet, known_set}
+use Rattle.calls_r_image.specs.RImage.{r_image_reply, RImage}
 use Rattle.calls_r_image.proofs.RImages.{fits, owed}
 use Rattle.calls_r_image.proofs.r_image.Statement.{statement}
 use Rattle.calls_r_image.proofs.r_image.Tie as tie
 
 -- ---- earlier moments, each from a later one
 
-abbrev at-start : tie.After-s → tie.Start
-at-start c = c.before.before.before.before.before
+abbrev at_start : tie.After-s → tie.Start
+at_start c = c.before.before.before.before.before
 
-abbrev at-s : tie.Else1 → tie.After-s
-at-s c = c.before.before.before.before
+abbrev at_s : tie.Else1 → tie.After-s
+at_s c = c.before.before.before.before
 
-abbrev at-else1 : tie.After-numbers → tie.Else1
-at-else1 c = c.before.before
+abbrev at_else1 : tie.After-numbers → tie.Else1
+at_else1 c = c.before.before
 
 -- ---- what is known where the set is, and where the lengths are right
 
 abbrev chosen : tie.After-s → Parameters
 chosen c = c.s.given.0.0
 
-known : (c : tie.After-s) → setOf (at-start c).args.set ≡ Known (chosen c)
+known : (c : tie.After-s) → set_of (at_start c).args.set ≡ Known (chosen c)
 known c = sym c.before.before.set-of.ensures ∙ c.s.given.1
 
-set : (c : tie.After-s) → IsSet (at-start c).args.set (chosen c)
-set c = known-set _ _ (known c)
+set : (c : tie.After-s) → IsSet (at_start c).args.set (chosen c)
+set c = known_set _ _ (known c)
 
 -- n places are in a room for numbers
 n_room : (c : tie.After-s) → (chosen c).n ≤ 1152
 n_room c = (set c).small
 
-fit : (c : tie.Else1) → let s = (at-start (at-s c)).args in
-    fits (length s.hblock.now) (length s.image.now) (chosen (at-s c)) ≡ true
+fit : (c : tie.Else1) → let s = (at_start (at_s c)).args in
+    fits (length s.hblock.now) (length s.image.now) (chosen (at_s c)) ≡ true
 fit c = not-false _ c.if1.false
 
-lengths : (c : tie.Else1) → let s = (at-start (at-s c)).args in let p = chosen (at-s c) in
+lengths : (c : tie.Else1) → let s = (at_start (at_s c)).args in let p = chosen (at_s c) in
     (length s.hblock.now ≡ p.hblock) × (length s.image.now ≡ p.packed)
-lengths c = two-lengths _ _ _ _ (fit c)
+lengths c = two_lengths _ _ _ _ (fit c)
 
 -- ---- the needs
 
-set-of-requires : tie.Need-set-of-requires
-set-of-requires c κs = search rules
+set_of_requires : tie.Need-set-of-requires
+set_of_requires c κs = search rules
 
 enum_told : tie.Need-enum-told
 enum_told c = search rules
 
-enum-known-s : tie.Need-enum-known-s
-enum-known-s c = search rules
+enum_known_s : tie.Need-enum-known-s
+enum_known_s c = search rules
 
 returns : tie.Need-returns
-unfolding RImage rImageReply leaves
+unfolding RImage r_image_reply leaves
 returns c =
     let k = c.before.before.before.before in
-    let s = (at-start k).args in
-    wrong-length _ s.set _ _ _ (known k) (not-true _ c.if1.true) refl
+    let s = (at_start k).args in
+    wrong_length_lem _ s.set _ _ _ (known k) (not-true _ c.if1.true) refl
 
-powers-requires : tie.Need-powers-requires
-powers-requires c κs = search rules
+powers_requires : tie.Need-powers-requires
+powers_requires c κs = search rules
 
-numbers-requires : tie.Need-numbers-requires
-numbers-requires c κs = search rules
+numbers_requires : tie.Need-numbers-requires
+numbers_requires c κs = search rules
 
-array-borrow-prefix-r : tie.Need-array-borrow-prefix-r
-array-borrow-prefix-r c =
-    omega (arith, n_room (at-s (at-else1 c.before)), c.before.numbers.ensures)
+array_borrow_prefix_r : tie.Need-array-borrow-prefix-r
+array_borrow_prefix_r c =
+    omega (arith, n_room (at_s (at_else1 c.before)), c.before.numbers.ensures)
 
-slice-aggregate-r-image-in : tie.Need-slice-aggregate-r-image-in
-slice-aggregate-r-image-in c =
-    sym (part-long _ 1152 _ c.before.before.numbers.ensures (n_room (at-s (at-else1 c.before.before))))
+slice_aggregate_r_image_in : tie.Need-slice-aggregate-r-image-in
+slice_aggregate_r_image_in c =
+    sym (part_long _ 1152 _ c.before.before.numbers.ensures (n_room (at_s (at_else1 c.before.before))))
 
-r-image-in-requires : tie.Need-r-image-in-requires
-r-image-in-requires c κs =
-    let i = set (at-s (at-else1 c.before.before.before)) in
-    let l = lengths (at-else1 c.before.before.before) in
-    let n = n_room (at-s (at-else1 c.before.before.before)) in (
+r_image_in_requires : tie.Need-r-image-in-requires
+r_image_in_requires c κs =
+    let i = set (at_s (at_else1 c.before.before.before)) in
+    let l = lengths (at_else1 c.before.before.before) in
+    let n = n_room (at_s (at_else1 c.before.before.before)) in (
       (record { turns = i.turns; table = c.before.before.before.before.powers.ensures }, omega (arith, i.eighth, i.words), omega (arith, l.0, i.hblock, i.gblock, i.eighth)),
-      (part-long _ 1152 _ c.before.before.before.numbers.ensures n ∙ i.whole, l.1 ∙ i.packed),
+      (part_long _ 1152 _ c.before.before.before.numbers.ensures n ∙ i.whole, l.1 ∙ i.packed),
     )
 
-returns-2 : tie.Need-returns-2
-unfolding RImage rImageReply leaves
-returns-2 c =
+returns_2 : tie.Need-returns-2
+unfolding RImage r_image_reply leaves
+returns_2 c =
     let s = c.before.before.before.before.before.args in
-    unknown-set _ s.set _ _ (sym c.before.before.set-of.ensures ∙ c.enum_told.given.1) refl
+    unknown_set_lem _ s.set _ _ (sym c.before.before.set-of.ensures ∙ c.enum_told.given.1) refl
 
 same_length : tie.Need-same-length
 same_length c = search rules
 
-returns-3 : tie.Need-returns-3
-returns-3 c =
-    let s = (at-start (at-s (at-else1 c.before.before.before.before.before.before.before))).args in
-    owed s.hblock.now s.image.now _ s.set (chosen (at-s (at-else1 c.before.before.before.before.before.before.before))) (known (at-s (at-else1 c.before.before.before.before.before.before.before))) (fit (at-else1 c.before.before.before.before.before.before.before)) c.before.before.before.r-image-in.ensures
+returns_3 : tie.Need-returns-3
+returns_3 c =
+    let s = (at_start (at_s (at_else1 c.before.before.before.before.before.before.before))).args in
+    owed s.hblock.now s.image.now _ s.set (chosen (at_s (at_else1 c.before.before.before.before.before.before.before))) (known (at_s (at_else1 c.before.before.before.before.before.before.before))) (fit (at_else1 c.before.before.before.before.before.before.before)) c.before.before.before.r-image-in.ensures
 
-pub r-image-spec : {M : Type 1} → statement M
-r-image-spec =
+pub r_image_spec : {M : Type 1} → statement M
+r_image_spec =
     tie.close
     (tie.spec
-    set-of-requires
+    set_of_requires
     enum_told
-    enum-known-s
+    enum_known_s
     returns
-    powers-requires
-    numbers-requires
-    array-borrow-prefix-r
-    slice-aggregate-r-image-in
-    r-image-in-requires
-    returns-2
+    powers_requires
+    numbers_requires
+    array_borrow_prefix_r
+    slice_aggregate_r_image_in
+    r_image_in_requires
+    returns_2
     same_length
-    returns-3)
+    returns_3)

@@ -5,36 +5,36 @@ use Prim.Native.Nat.{◌+◌, ◌-◌}
 use native.Mathlib.Omega.{arith}
 use lib.ListN.{length, get_or}
 use borrow.Author.Rules.{rules}
-use Rattle.residue.specs.Signed.{residueOf}
-use Rattle.lists.proofs.Fill.{Fill, fill_start, fill-turn, fill_end}
-use Rattle.encoding.specs.Encoding.{encodeBit}
+use Rattle.residue.specs.Signed.{residue_of}
+use Rattle.lists.proofs.Fill.{Fill, fill_start, fill_turn, fill_end}
+use Rattle.encoding.specs.Encoding.{encode_bit}
 use Rattle.encoding.proofs.encode_bits.Statement.{statement}
 use Rattle.encoding.proofs.encode_bits.Tie as tie
 
-abbrev invariant-loop : tie.invariant-loop
-invariant-loop bits halves coefficients₀ n i₀ coefficients i =
-    Fill (λ k. residueOf (encodeBit (get_or bits k 0) (get_or halves k 0) (get_or halves (n + k) 0))) n coefficients i
+abbrev invariant_loop : tie.invariant-loop
+invariant_loop bits halves coefficients₀ n i₀ coefficients i =
+    Fill (λ k. residue_of (encode_bit (get_or bits k 0) (get_or halves k 0) (get_or halves (n + k) 0))) n coefficients i
 
-abbrev decreases-loop : tie.decreases-loop
-decreases-loop bits halves coefficients₀ n i₀ coefficients i = n - i
+abbrev decreases_loop : tie.decreases-loop
+decreases_loop bits halves coefficients₀ n i₀ coefficients i = n - i
 
-loop-holds : tie.Need-loop-init invariant-loop decreases-loop
-loop-holds c = fill_start _ refl
+loop_holds : tie.Need-loop-init invariant_loop decreases_loop
+loop_holds c = fill_start _ refl
 
-shared-slice-read-encode-bit : tie.Need-shared-slice-read-encode-bit invariant-loop decreases-loop
-shared-slice-read-encode-bit c = search rules
+shared_slice_read_encode_bit : tie.Need-shared-slice-read-encode-bit invariant_loop decreases_loop
+shared_slice_read_encode_bit c = search rules
 
-shared-slice-read-encode-bit-2 : tie.Need-shared-slice-read-encode-bit-2 invariant-loop decreases-loop
-shared-slice-read-encode-bit-2 c = search rules
+shared_slice_read_encode_bit_2 : tie.Need-shared-slice-read-encode-bit-2 invariant_loop decreases_loop
+shared_slice_read_encode_bit_2 c = search rules
 
-add-encode-bit : tie.Need-overflow-add-encode-bit invariant-loop decreases-loop
-add-encode-bit c = search rules
+add_encode_bit : tie.Need-overflow-add-encode-bit invariant_loop decreases_loop
+add_encode_bit c = search rules
 
-shared-slice-read-encode-bit-3 : tie.Need-shared-slice-read-encode-bit-3 invariant-loop decreases-loop
-shared-slice-read-encode-bit-3 c = search rules
+shared_slice_read_encode_bit_3 : tie.Need-shared-slice-read-encode-bit-3 invariant_loop decreases_loop
+shared_slice_read_encode_bit_3 c = search rules
 
-encode-bit-requires : tie.Need-encode-bit-requires invariant-loop decreases-loop
-encode-bit-requires c κs =
+encode_bit_requires : tie.Need-encode-bit-requires invariant_loop decreases_loop
+encode_bit_requires c κs =
     let s = c.before.before.before.before.before.before.before.before in
     let i = c.before.before.before.before.loop.i in
     let a = s.requires.2.low i in
@@ -42,45 +42,45 @@ encode-bit-requires c κs =
     let d = s.requires.3.low (length s.args.coefficients.now + i) in
     (omega (arith, a, b, d), omega (arith, a, b, d), omega (arith, a, b, d))
 
-mul-coefficients : tie.Need-overflow-mul-coefficients invariant-loop decreases-loop
-mul-coefficients c = search rules
+mul_coefficients : tie.Need-overflow-mul-coefficients invariant_loop decreases_loop
+mul_coefficients c = search rules
 
-slice-write-coefficients : tie.Need-slice-write-coefficients invariant-loop decreases-loop
-slice-write-coefficients c = search rules
+slice_write_coefficients : tie.Need-slice-write-coefficients invariant_loop decreases_loop
+slice_write_coefficients c = search rules
 
-add-i : tie.Need-overflow-add-i invariant-loop decreases-loop
-add-i c = search rules
+add_i : tie.Need-overflow-add-i invariant_loop decreases_loop
+add_i c = search rules
 
-loop-less : tie.Need-loop-smaller invariant-loop decreases-loop
-loop-less c = search rules
+loop_less : tie.Need-loop-smaller invariant_loop decreases_loop
+loop_less c = search rules
 
-loop-again : tie.Need-loop-preserved invariant-loop decreases-loop
-loop-again c =
+loop_again : tie.Need-loop-preserved invariant_loop decreases_loop
+loop_again c =
     let u = c.before.before.before.before.before in
-    fill-turn u.loop.invariant _ c.before.before.before.before.loop-test.true c.encode-bit.ensures
+    fill_turn u.loop.invariant _ c.before.before.before.before.loop-test.true c.encode-bit.ensures
 
-same_length : tie.Need-same-length invariant-loop decreases-loop
+same_length : tie.Need-same-length invariant_loop decreases_loop
 same_length c = search rules
 
-returns : tie.Need-returns invariant-loop decreases-loop
+returns : tie.Need-returns invariant_loop decreases_loop
 returns c = fill_end c.before.loop.invariant c.loop-test.false
 
-pub encode-bits-spec : {M : Type 1} → statement M
-encode-bits-spec =
+pub encode_bits_spec : {M : Type 1} → statement M
+encode_bits_spec =
     tie.close
     (tie.spec
-    invariant-loop
-    decreases-loop
-    loop-holds
-    shared-slice-read-encode-bit
-    shared-slice-read-encode-bit-2
-    add-encode-bit
-    shared-slice-read-encode-bit-3
-    encode-bit-requires
-    mul-coefficients
-    slice-write-coefficients
-    add-i
-    loop-less
-    loop-again
+    invariant_loop
+    decreases_loop
+    loop_holds
+    shared_slice_read_encode_bit
+    shared_slice_read_encode_bit_2
+    add_encode_bit
+    shared_slice_read_encode_bit_3
+    encode_bit_requires
+    mul_coefficients
+    slice_write_coefficients
+    add_i
+    loop_less
+    loop_again
     same_length
     returns)

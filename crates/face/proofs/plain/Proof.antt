@@ -4,5 +4,5 @@ use borrow.Author.Rules.{rules}
 use Rattle.face.proofs.plain.Statement.{statement}
 use Rattle.face.proofs.plain.Tie as tie
 
-pub plain-spec : {M : Type 1} → statement M
-plain-spec = tie.close (tie.spec (λ c κs. search rules) (λ c κs. search rules) (λ c. search rules))
+pub plain_spec : {M : Type 1} → statement M
+plain_spec = tie.close (tie.spec (λ c κs. search rules) (λ c κs. search rules) (λ c. search rules))

@@ -3,18 +3,18 @@
 use mathlib.Core.Path.{ap, ◌∙◌}
 use lib.ListN.{length}
 use borrow.Author.Rules.{rules}
-use Rattle.face.proofs.Parts.{no-further, first_part}
+use Rattle.face.proofs.Parts.{no_further, first_part}
 use Rattle.face.proofs.rl_f_half.Statement.{statement}
 use Rattle.face.proofs.rl_f_half.Tie as tie
 
-f-half-requires : tie.Need-f-half-requires
-f-half-requires c κs = search rules
+f_half_requires : tie.Need-f-half-requires
+f_half_requires c κs = search rules
 
 returns : tie.Need-returns
 returns c =
     let half = c.f-half.ensures in
     let found = first_part _ _ _ half.content in
-    record { kept = record { content = found ∙ half.content; lent = no-further _ }; within = ap length found }
+    record { kept = record { content = found ∙ half.content; lent = no_further _ }; within = ap length found }
 
-pub rl-f-half-spec : {M : Type 1} → statement M
-rl-f-half-spec = tie.close (tie.spec f-half-requires returns)
+pub rl_f_half_spec : {M : Type 1} → statement M
+rl_f_half_spec = tie.close (tie.spec f_half_requires returns)

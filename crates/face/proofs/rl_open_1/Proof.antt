@@ -4,17 +4,17 @@ use borrow.Author.Rules.{rules}
 use Rattle.face.proofs.rl_open_1.Statement.{statement}
 use Rattle.face.proofs.rl_open_1.Tie as tie
 
-open-1-requires : tie.Need-open-1-requires
-open-1-requires c κs = search rules
+open_1_requires : tie.Need-open-1-requires
+open_1_requires c κs = search rules
 
-plain-requires : tie.Need-plain-requires
-plain-requires c κs = search rules
+plain_requires : tie.Need-plain-requires
+plain_requires c κs = search rules
 
 same_length : tie.Need-same-length
 same_length c = search rules
 
-same-length-2 : tie.Need-same-length-2
-same-length-2 c = search rules
+same_length_2 : tie.Need-same-length-2
+same_length_2 c = search rules
 
 returns : tie.Need-returns
 returns c =
@@ -25,6 +25,6 @@ returns c =
       place_is = c.plain.ensures.1;
     }
 
-pub rl-open-1-spec : {M : Type 1} → statement M
-rl-open-1-spec =
-    tie.close (tie.spec open-1-requires plain-requires same_length same-length-2 returns)
+pub rl_open_1_spec : {M : Type 1} → statement M
+rl_open_1_spec =
+    tie.close (tie.spec open_1_requires plain_requires same_length same_length_2 returns)

@@ -4,64 +4,64 @@ use mathlib.Core.Path.{refl, ◌∙◌}
 use Prim.Native.Nat.{◌-◌}
 use lib.ListN.{get_or}
 use borrow.Author.Rules.{rules}
-use Rattle.residue.specs.Signed.{residueOf}
-use Rattle.lists.proofs.TabLaws.{tab-map}
-use Rattle.lists.proofs.Fill.{Fill, fill_start, fill-turn, fill_end}
-use Rattle.marks.specs.Marks.{ofMark}
+use Rattle.residue.specs.Signed.{residue_of}
+use Rattle.lists.proofs.TabLaws.{tab_map}
+use Rattle.lists.proofs.Fill.{Fill, fill_start, fill_turn, fill_end}
+use Rattle.marks.specs.Marks.{of_mark}
 use Rattle.marks.proofs.unmark.Statement.{statement}
 use Rattle.marks.proofs.unmark.Tie as tie
 
-abbrev invariant-loop : tie.invariant-loop
-invariant-loop marks list₀ n i₀ list i = Fill (λ k. residueOf (ofMark (get_or marks k 0))) n list i
+abbrev invariant_loop : tie.invariant-loop
+invariant_loop marks list₀ n i₀ list i = Fill (λ k. residue_of (of_mark (get_or marks k 0))) n list i
 
-abbrev decreases-loop : tie.decreases-loop
-decreases-loop marks list₀ n i₀ list i = n - i
+abbrev decreases_loop : tie.decreases-loop
+decreases_loop marks list₀ n i₀ list i = n - i
 
-loop-holds : tie.Need-loop-init invariant-loop decreases-loop
-loop-holds c = fill_start _ refl
+loop_holds : tie.Need-loop-init invariant_loop decreases_loop
+loop_holds c = fill_start _ refl
 
-shared-slice-read-residue-of : tie.Need-shared-slice-read-residue-of invariant-loop decreases-loop
-shared-slice-read-residue-of c = search rules
+shared_slice_read_residue_of : tie.Need-shared-slice-read-residue-of invariant_loop decreases_loop
+shared_slice_read_residue_of c = search rules
 
-residue-of-requires : tie.Need-residue-of-requires invariant-loop decreases-loop
-residue-of-requires c κs = c.before.before.before.before.before.requires.1.low _
+residue_of_requires : tie.Need-residue-of-requires invariant_loop decreases_loop
+residue_of_requires c κs = c.before.before.before.before.before.requires.1.low _
 
-mul-list : tie.Need-overflow-mul-list invariant-loop decreases-loop
-mul-list c = search rules
+mul_list : tie.Need-overflow-mul-list invariant_loop decreases_loop
+mul_list c = search rules
 
-slice-write-list : tie.Need-slice-write-list invariant-loop decreases-loop
-slice-write-list c = search rules
+slice_write_list : tie.Need-slice-write-list invariant_loop decreases_loop
+slice_write_list c = search rules
 
-add-i : tie.Need-overflow-add-i invariant-loop decreases-loop
-add-i c = search rules
+add_i : tie.Need-overflow-add-i invariant_loop decreases_loop
+add_i c = search rules
 
-loop-less : tie.Need-loop-smaller invariant-loop decreases-loop
-loop-less c = search rules
+loop_less : tie.Need-loop-smaller invariant_loop decreases_loop
+loop_less c = search rules
 
-loop-again : tie.Need-loop-preserved invariant-loop decreases-loop
-loop-again c = fill-turn c.before.before.before.loop.invariant _ c.before.before.loop-test.true c.residue-of.ensures
+loop_again : tie.Need-loop-preserved invariant_loop decreases_loop
+loop_again c = fill_turn c.before.before.before.loop.invariant _ c.before.before.loop-test.true c.residue-of.ensures
 
-same_length : tie.Need-same-length invariant-loop decreases-loop
+same_length : tie.Need-same-length invariant_loop decreases_loop
 same_length c = search rules
 
-returns : tie.Need-returns invariant-loop decreases-loop
+returns : tie.Need-returns invariant_loop decreases_loop
 returns c =
     let s = c.before.before.before.before in
-    fill_end c.before.loop.invariant c.loop-test.false ∙ tab-map (λ m. residueOf (ofMark m)) 0 _ s.args.marks.now s.requires.0
+    fill_end c.before.loop.invariant c.loop-test.false ∙ tab_map (λ m. residue_of (of_mark m)) 0 _ s.args.marks.now s.requires.0
 
-pub unmark-spec : {M : Type 1} → statement M
-unmark-spec =
+pub unmark_spec : {M : Type 1} → statement M
+unmark_spec =
     tie.close
     (tie.spec
-    invariant-loop
-    decreases-loop
-    loop-holds
-    shared-slice-read-residue-of
-    residue-of-requires
-    mul-list
-    slice-write-list
-    add-i
-    loop-less
-    loop-again
+    invariant_loop
+    decreases_loop
+    loop_holds
+    shared_slice_read_residue_of
+    residue_of_requires
+    mul_list
+    slice_write_list
+    add_i
+    loop_less
+    loop_again
     same_length
     returns)

@@ -2,15 +2,15 @@
 -- Assumes nothing.
 use mathlib.Core.Path.{ap, ◌∙◌}
 use borrow.Author.Rules.{rules}
-use Rattle.residue.specs.Large.{firstLarge}
+use Rattle.residue.specs.Large.{first_large}
 use Rattle.packing.proofs.unpack.Statement.{statement}
 use Rattle.packing.proofs.unpack.Tie as tie
 
-unpack-pairs-requires : tie.Need-unpack-pairs-requires
-unpack-pairs-requires c κs = search rules
+unpack_pairs_requires : tie.Need-unpack-pairs-requires
+unpack_pairs_requires c κs = search rules
 
-first-large-requires : tie.Need-first-large-requires
-first-large-requires c κs = search rules
+first_large_requires : tie.Need-first-large-requires
+first_large_requires c κs = search rules
 
 same_length : tie.Need-same-length
 same_length c = search rules
@@ -18,7 +18,7 @@ same_length c = search rules
 returns : tie.Need-returns
 returns c =
     let written = c.before.before.before.before.unpack-pairs.ensures in
-    (written, c.first-large.ensures ∙ ap firstLarge written)
+    (written, c.first-large.ensures ∙ ap first_large written)
 
-pub unpack-spec : {M : Type 1} → statement M
-unpack-spec = tie.close (tie.spec unpack-pairs-requires first-large-requires same_length returns)
+pub unpack_spec : {M : Type 1} → statement M
+unpack_spec = tie.close (tie.spec unpack_pairs_requires first_large_requires same_length returns)

@@ -2,13 +2,13 @@
 -- Assumes nothing.
 use mathlib.Core.Path.{refl}
 use Rattle.residue.specs.Field.{mulq}
-use Rattle.powers.proofs.TableLaws.{chain, powers-of}
+use Rattle.powers.proofs.TableLaws.{chain, powers_of}
 use Rattle.powers.proofs.powers.Statement.{statement}
 use Rattle.powers.proofs.powers.Tie as tie
 
 returns : tie.Need-returns
 unfolding chain mulq
-returns c = powers-of _ _ _ refl refl
+returns c = powers_of _ _ _ refl refl
 
-pub powers-spec : {M : Type 1} → statement M
-powers-spec = tie.close (tie.spec returns)
+pub powers_spec : {M : Type 1} → statement M
+powers_spec = tie.close (tie.spec returns)

@@ -4,5 +4,5 @@ use borrow.Author.Rules.{rules}
 use Rattle.ring.proofs.fold_high.Statement.{statement}
 use Rattle.ring.proofs.fold_high.Tie as tie
 
-pub fold-high-spec : {M : Type 1} → statement M
-fold-high-spec = tie.close (tie.spec (λ c κs. search rules) (λ c. search rules))
+pub fold_high_spec : {M : Type 1} → statement M
+fold_high_spec = tie.close (tie.spec (λ c κs. search rules) (λ c. search rules))

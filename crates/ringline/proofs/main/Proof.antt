@@ -7,43 +7,43 @@ use lib.ListN.{length}
 use lib.Seq.{length-take-le}
 use borrow.Author.Rules.{rules}
 use Rattle.line.specs.Line.{Line}
-use Rattle.print.proofs.WriteLaws.{writes-within}
+use Rattle.print.proofs.WriteLaws.{writes_within}
 use Rattle.ringline.proofs.main.Statement.{statement}
 use Rattle.ringline.proofs.main.Tie as tie
 
 within : (c : tie.After-line) → c.line.result ≤ length c.line.new.1.0
 unfolding Line
-within c = writes-within _ 0 _ _ _ (omega arith) c.line.ensures
+within c = writes_within _ 0 _ _ _ (omega arith) c.line.ensures
 
-input-room-requires : tie.Need-input-room-requires
-input-room-requires c κs = search rules
+input_room_requires : tie.Need-input-room-requires
+input_room_requires c κs = search rules
 
-output-room-requires : tie.Need-output-room-requires
-output-room-requires c κs = search rules
+output_room_requires : tie.Need-output-room-requires
+output_room_requires c κs = search rules
 
-slice-aggregate-read-full : tie.Need-slice-aggregate-read-full
-slice-aggregate-read-full c = search rules
+slice_aggregate_read_full : tie.Need-slice-aggregate-read-full
+slice_aggregate_read_full c = search rules
 
-read-full-requires : tie.Need-read-full-requires
-read-full-requires c κs = search rules
+read_full_requires : tie.Need-read-full-requires
+read_full_requires c κs = search rules
 
-array-share-prefix-input : tie.Need-array-share-prefix-input
-array-share-prefix-input c = search rules
+array_share_prefix_input : tie.Need-array-share-prefix-input
+array_share_prefix_input c = search rules
 
-slice-aggregate-line : tie.Need-slice-aggregate-line
-slice-aggregate-line c = search rules
+slice_aggregate_line : tie.Need-slice-aggregate-line
+slice_aggregate_line c = search rules
 
-line-requires : tie.Need-line-requires
-line-requires c κs = search rules
+line_requires : tie.Need-line-requires
+line_requires c κs = search rules
 
-array-share-prefix-output : tie.Need-array-share-prefix-output
-array-share-prefix-output c = within c
+array_share_prefix_output : tie.Need-array-share-prefix-output
+array_share_prefix_output c = within c
 
-slice-aggregate-write-all : tie.Need-slice-aggregate-write-all
-slice-aggregate-write-all c = sym (length-take-le _ _ (within c.before))
+slice_aggregate_write_all : tie.Need-slice-aggregate-write-all
+slice_aggregate_write_all c = sym (length-take-le _ _ (within c.before))
 
-write-all-requires : tie.Need-write-all-requires
-write-all-requires c κs = search rules
+write_all_requires : tie.Need-write-all-requires
+write_all_requires c κs = search rules
 
 returns : tie.Need-returns
 returns c = search rules
@@ -52,14 +52,14 @@ pub main_spec : {M : Type 1} → statement M
 main_spec =
     tie.close
     (tie.spec
-    input-room-requires
-    output-room-requires
-    slice-aggregate-read-full
-    read-full-requires
-    array-share-prefix-input
-    slice-aggregate-line
-    line-requires
-    array-share-prefix-output
-    slice-aggregate-write-all
-    write-all-requires
+    input_room_requires
+    output_room_requires
+    slice_aggregate_read_full
+    read_full_requires
+    array_share_prefix_input
+    slice_aggregate_line
+    line_requires
+    array_share_prefix_output
+    slice_aggregate_write_all
+    write_all_requires
     returns)

@@ -6,72 +6,72 @@ use lib.ListN.{get_or}
 use borrow.Author.Rules.{rules}
 use Rattle.residue.specs.Field.{subq}
 use Rattle.algebra.specs.SlotBySlot.{minus}
-use Rattle.lists.proofs.Fill.{Fill, fill_start, fill-turn, fill_end}
-use Rattle.slotwise.proofs.SlotLaws.{slots-low}
+use Rattle.lists.proofs.Fill.{Fill, fill_start, fill_turn, fill_end}
+use Rattle.slotwise.proofs.SlotLaws.{slots_low}
 use Rattle.slotwise.proofs.minus.Statement.{statement}
 use Rattle.slotwise.proofs.minus.Tie as tie
 
-abbrev invariant-loop : tie.invariant-loop
-invariant-loop a b out₀ n i₀ out i = Fill (λ k. subq (get_or a k 0) (get_or b k 0)) n out i
+abbrev invariant_loop : tie.invariant-loop
+invariant_loop a b out₀ n i₀ out i = Fill (λ k. subq (get_or a k 0) (get_or b k 0)) n out i
 
-abbrev decreases-loop : tie.decreases-loop
-decreases-loop a b out₀ n i₀ out i = n - i
+abbrev decreases_loop : tie.decreases-loop
+decreases_loop a b out₀ n i₀ out i = n - i
 
-loop-holds : tie.Need-loop-init invariant-loop decreases-loop
-loop-holds c = fill_start _ refl
+loop_holds : tie.Need-loop-init invariant_loop decreases_loop
+loop_holds c = fill_start _ refl
 
-mul-t8 : tie.Need-overflow-mul-t8 invariant-loop decreases-loop
-mul-t8 c = search rules
+mul_t8 : tie.Need-overflow-mul-t8 invariant_loop decreases_loop
+mul_t8 c = search rules
 
-shared-slice-read-t10 : tie.Need-shared-slice-read-t10 invariant-loop decreases-loop
-shared-slice-read-t10 c = search rules
+shared_slice_read_t10 : tie.Need-shared-slice-read-t10 invariant_loop decreases_loop
+shared_slice_read_t10 c = search rules
 
-mul-t12 : tie.Need-overflow-mul-t12 invariant-loop decreases-loop
-mul-t12 c = search rules
+mul_t12 : tie.Need-overflow-mul-t12 invariant_loop decreases_loop
+mul_t12 c = search rules
 
-shared-slice-read-t14 : tie.Need-shared-slice-read-t14 invariant-loop decreases-loop
-shared-slice-read-t14 c = search rules
+shared_slice_read_t14 : tie.Need-shared-slice-read-t14 invariant_loop decreases_loop
+shared_slice_read_t14 c = search rules
 
-mul-out : tie.Need-overflow-mul-out invariant-loop decreases-loop
-mul-out c = search rules
+mul_out : tie.Need-overflow-mul-out invariant_loop decreases_loop
+mul_out c = search rules
 
-slice-write-out : tie.Need-slice-write-out invariant-loop decreases-loop
-slice-write-out c = search rules
+slice_write_out : tie.Need-slice-write-out invariant_loop decreases_loop
+slice_write_out c = search rules
 
-add-i : tie.Need-overflow-add-i invariant-loop decreases-loop
-add-i c = search rules
+add_i : tie.Need-overflow-add-i invariant_loop decreases_loop
+add_i c = search rules
 
-loop-less : tie.Need-loop-smaller invariant-loop decreases-loop
-loop-less c = search rules
+loop_less : tie.Need-loop-smaller invariant_loop decreases_loop
+loop_less c = search rules
 
-loop-again : tie.Need-loop-preserved invariant-loop decreases-loop
-loop-again c =
+loop_again : tie.Need-loop-preserved invariant_loop decreases_loop
+loop_again c =
     let t = c.before.before.before in
-    fill-turn t.before.loop.invariant _ t.loop-test.true (search rules)
+    fill_turn t.before.loop.invariant _ t.loop-test.true (search rules)
 
-same_length : tie.Need-same-length invariant-loop decreases-loop
+same_length : tie.Need-same-length invariant_loop decreases_loop
 same_length c = search rules
 
-returns : tie.Need-returns invariant-loop decreases-loop
+returns : tie.Need-returns invariant_loop decreases_loop
 unfolding minus
 returns c = fill_end c.before.loop.invariant c.loop-test.false
 
-pub minus-spec : {M : Type 1} → statement M
-minus-spec =
+pub minus_spec : {M : Type 1} → statement M
+minus_spec =
     tie.close
     (tie.spec
-    invariant-loop
-    decreases-loop
-    loop-holds
-    mul-t8
-    shared-slice-read-t10
-    mul-t12
-    shared-slice-read-t14
-    (λ c κs. slots-low c.before.before.before.before.before.before.before.requires _ c.before.before.loop-test.true)
-    mul-out
-    slice-write-out
-    add-i
-    loop-less
-    loop-again
+    invariant_loop
+    decreases_loop
+    loop_holds
+    mul_t8
+    shared_slice_read_t10
+    mul_t12
+    shared_slice_read_t14
+    (λ c κs. slots_low c.before.before.before.before.before.before.before.requires _ c.before.before.loop-test.true)
+    mul_out
+    slice_write_out
+    add_i
+    loop_less
+    loop_again
     same_length
     returns)

@@ -6,59 +6,59 @@ use native.Mathlib.Omega.{arith}
 use lib.ListN.{get_or}
 use lib.Seq.{get_or-take, length-take-le}
 use borrow.Author.Rules.{rules}
-use Rattle.stages.specs.Sealing.{keyBytes}
-use Rattle.lists.proofs.Fill.{Fill, fill_start, fill-turn, fill-list}
+use Rattle.stages.specs.Sealing.{key_bytes}
+use Rattle.lists.proofs.Fill.{Fill, fill_start, fill_turn, fill_list}
 use Rattle.stages_seal.proofs.copy_key.Statement.{statement}
 use Rattle.stages_seal.proofs.copy_key.Tie as tie
 
-abbrev invariant-loop : tie.invariant-loop
-invariant-loop hblock key₀ i₀ key i = Fill (λ k. get_or (keyBytes hblock) k 0) 32 key i
+abbrev invariant_loop : tie.invariant-loop
+invariant_loop hblock key₀ i₀ key i = Fill (λ k. get_or (key_bytes hblock) k 0) 32 key i
 
-abbrev decreases-loop : tie.decreases-loop
-decreases-loop hblock key₀ i₀ key i = 32 - i
+abbrev decreases_loop : tie.decreases-loop
+decreases_loop hblock key₀ i₀ key i = 32 - i
 
-loop-holds : tie.Need-loop-init invariant-loop decreases-loop
-loop-holds c =
+loop_holds : tie.Need-loop-init invariant_loop decreases_loop
+loop_holds c =
     fill_start _ c.requires.0
 
-shared-slice-read-key : tie.Need-shared-slice-read-key invariant-loop decreases-loop
-shared-slice-read-key c = search rules
+shared_slice_read_key : tie.Need-shared-slice-read-key invariant_loop decreases_loop
+shared_slice_read_key c = search rules
 
-slice-write-key : tie.Need-slice-write-key invariant-loop decreases-loop
-slice-write-key c = search rules
+slice_write_key : tie.Need-slice-write-key invariant_loop decreases_loop
+slice_write_key c = search rules
 
-add-i : tie.Need-overflow-add-i invariant-loop decreases-loop
-add-i c = search rules
+add_i : tie.Need-overflow-add-i invariant_loop decreases_loop
+add_i c = search rules
 
-loop-less : tie.Need-loop-smaller invariant-loop decreases-loop
-loop-less c = search rules
+loop_less : tie.Need-loop-smaller invariant_loop decreases_loop
+loop_less c = search rules
 
-loop-again : tie.Need-loop-preserved invariant-loop decreases-loop
-unfolding keyBytes
-loop-again c =
+loop_again : tie.Need-loop-preserved invariant_loop decreases_loop
+unfolding key_bytes
+loop_again c =
     let s = c.before.before.before in
-    fill-turn c.before.before.loop.invariant _ c.before.loop-test.true (sym (get_or-take 32 s.args.hblock.now _ 0 c.before.loop-test.true))
+    fill_turn c.before.before.loop.invariant _ c.before.loop-test.true (sym (get_or-take 32 s.args.hblock.now _ 0 c.before.loop-test.true))
 
-same_length : tie.Need-same-length invariant-loop decreases-loop
+same_length : tie.Need-same-length invariant_loop decreases_loop
 same_length c = search rules
 
-returns : tie.Need-returns invariant-loop decreases-loop
-unfolding keyBytes
+returns : tie.Need-returns invariant_loop decreases_loop
+unfolding key_bytes
 returns c =
     let s = c.before.before in
-    fill-list (keyBytes s.args.hblock.now) c.before.loop.invariant (omega arith) (length-take-le 32 s.args.hblock.now s.requires.1)
+    fill_list (key_bytes s.args.hblock.now) c.before.loop.invariant (omega arith) (length-take-le 32 s.args.hblock.now s.requires.1)
 
-pub copy-key-spec : {M : Type 1} → statement M
-copy-key-spec =
+pub copy_key_spec : {M : Type 1} → statement M
+copy_key_spec =
     tie.close
     (tie.spec
-    invariant-loop
-    decreases-loop
-    loop-holds
-    shared-slice-read-key
-    slice-write-key
-    add-i
-    loop-less
-    loop-again
+    invariant_loop
+    decreases_loop
+    loop_holds
+    shared_slice_read_key
+    slice_write_key
+    add_i
+    loop_less
+    loop_again
     same_length
     returns)

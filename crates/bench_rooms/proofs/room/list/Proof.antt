@@ -6,17 +6,17 @@ use borrow.Author.Rules.{rules}
 use Rattle.bench_rooms.proofs.room.list.Statement.{statement}
 use Rattle.bench_rooms.proofs.room.list.Tie as tie
 
-slice-aggregate-result : tie.Need-slice-aggregate-result
-slice-aggregate-result c = sym (length-take-le _ _ (search rules))
+slice_aggregate_result : tie.Need-slice-aggregate-result
+slice_aggregate_result c = sym (length-take-le _ _ (search rules))
 
-slice-aggregate-result-2 : tie.Need-slice-aggregate-result-2
-slice-aggregate-result-2 c = search rules
+slice_aggregate_result_2 : tie.Need-slice-aggregate-result-2
+slice_aggregate_result_2 c = search rules
 
 returns : tie.Need-returns
 returns c = search rules
 
-returns-2 : tie.Need-returns-2
-returns-2 c = search rules
+returns_2 : tie.Need-returns-2
+returns_2 c = search rules
 
-pub list-spec : {M : Type 1} → statement M
-list-spec = tie.close (tie.spec slice-aggregate-result slice-aggregate-result-2 returns returns-2)
+pub list_spec : {M : Type 1} → statement M
+list_spec = tie.close (tie.spec slice_aggregate_result slice_aggregate_result_2 returns returns_2)

@@ -7,51 +7,51 @@ use borrow.Author.Rules.{rules}
 use Rattle.bench_rooms.proofs.room.ramp.Statement.{statement}
 use Rattle.bench_rooms.proofs.room.ramp.Tie as tie
 
-abbrev invariant-loop : tie.invariant-loop
-invariant-loop room₀ i₀ i-end room i = (i ≤ i-end) × (i-end ≡ length room₀) × (length room ≡ length room₀)
+abbrev invariant_loop : tie.invariant-loop
+invariant_loop room₀ i₀ i_end room i = (i ≤ i_end) × (i_end ≡ length room₀) × (length room ≡ length room₀)
 
-abbrev decreases-loop : tie.decreases-loop
-decreases-loop room₀ i₀ i-end room i = i-end - i
+abbrev decreases_loop : tie.decreases-loop
+decreases_loop room₀ i₀ i_end room i = i_end - i
 
-loop-holds : tie.Need-loop-init invariant-loop decreases-loop
-loop-holds c = search rules
+loop_holds : tie.Need-loop-init invariant_loop decreases_loop
+loop_holds c = search rules
 
-cast-room : tie.Need-overflow-cast-room invariant-loop decreases-loop
-cast-room c = search rules
+cast_room : tie.Need-overflow-cast-room invariant_loop decreases_loop
+cast_room c = search rules
 
-mul-room : tie.Need-overflow-mul-room invariant-loop decreases-loop
-mul-room c = search rules
+mul_room : tie.Need-overflow-mul-room invariant_loop decreases_loop
+mul_room c = search rules
 
-slice-write-room : tie.Need-slice-write-room invariant-loop decreases-loop
-slice-write-room c = search rules
+slice_write_room : tie.Need-slice-write-room invariant_loop decreases_loop
+slice_write_room c = search rules
 
-add-i : tie.Need-overflow-add-i invariant-loop decreases-loop
-add-i c = search rules
+add_i : tie.Need-overflow-add-i invariant_loop decreases_loop
+add_i c = search rules
 
-loop-less : tie.Need-loop-smaller invariant-loop decreases-loop
-loop-less c = search rules
+loop_less : tie.Need-loop-smaller invariant_loop decreases_loop
+loop_less c = search rules
 
-loop-again : tie.Need-loop-preserved invariant-loop decreases-loop
-loop-again c = search rules
+loop_again : tie.Need-loop-preserved invariant_loop decreases_loop
+loop_again c = search rules
 
-same_length : tie.Need-same-length invariant-loop decreases-loop
+same_length : tie.Need-same-length invariant_loop decreases_loop
 same_length c = search rules
 
-returns : tie.Need-returns invariant-loop decreases-loop
+returns : tie.Need-returns invariant_loop decreases_loop
 returns c = search rules
 
-pub ramp-spec : {M : Type 1} → statement M
-ramp-spec =
+pub ramp_spec : {M : Type 1} → statement M
+ramp_spec =
     tie.close
     (tie.spec
-    invariant-loop
-    decreases-loop
-    loop-holds
-    cast-room
-    mul-room
-    slice-write-room
-    add-i
-    loop-less
-    loop-again
+    invariant_loop
+    decreases_loop
+    loop_holds
+    cast_room
+    mul_room
+    slice_write_room
+    add_i
+    loop_less
+    loop_again
     same_length
     returns)

@@ -7,43 +7,43 @@ use borrow.Author.Rules.{rules}
 use Rattle.bench_rooms.proofs.room.repeat.Statement.{statement}
 use Rattle.bench_rooms.proofs.room.repeat.Tie as tie
 
-abbrev invariant-loop : tie.invariant-loop
-invariant-loop room₀ first second i₀ i-end room i = (i ≤ i-end) × (i-end ≡ length room₀) × (length room ≡ length room₀)
+abbrev invariant_loop : tie.invariant-loop
+invariant_loop room₀ first second i₀ i_end room i = (i ≤ i_end) × (i_end ≡ length room₀) × (length room ≡ length room₀)
 
-abbrev decreases-loop : tie.decreases-loop
-decreases-loop room₀ first second i₀ i-end room i = i-end - i
+abbrev decreases_loop : tie.decreases-loop
+decreases_loop room₀ first second i₀ i_end room i = i_end - i
 
-loop-holds : tie.Need-loop-init invariant-loop decreases-loop
-loop-holds c = search rules
+loop_holds : tie.Need-loop-init invariant_loop decreases_loop
+loop_holds c = search rules
 
-slice-write-room : tie.Need-slice-write-room invariant-loop decreases-loop
-slice-write-room c = search rules
+slice_write_room : tie.Need-slice-write-room invariant_loop decreases_loop
+slice_write_room c = search rules
 
-add-i : tie.Need-overflow-add-i invariant-loop decreases-loop
-add-i c = search rules
+add_i : tie.Need-overflow-add-i invariant_loop decreases_loop
+add_i c = search rules
 
-loop-less : tie.Need-loop-smaller invariant-loop decreases-loop
-loop-less c = search rules
+loop_less : tie.Need-loop-smaller invariant_loop decreases_loop
+loop_less c = search rules
 
-loop-again : tie.Need-loop-preserved invariant-loop decreases-loop
-loop-again c = search rules
+loop_again : tie.Need-loop-preserved invariant_loop decreases_loop
+loop_again c = search rules
 
-same_length : tie.Need-same-length invariant-loop decreases-loop
+same_length : tie.Need-same-length invariant_loop decreases_loop
 same_length c = search rules
 
-returns : tie.Need-returns invariant-loop decreases-loop
+returns : tie.Need-returns invariant_loop decreases_loop
 returns c = search rules
 
-pub repeat-spec : {M : Type 1} → statement M
-repeat-spec =
+pub repeat_spec : {M : Type 1} → statement M
+repeat_spec =
     tie.close
     (tie.spec
-    invariant-loop
-    decreases-loop
-    loop-holds
-    slice-write-room
-    add-i
-    loop-less
-    loop-again
+    invariant_loop
+    decreases_loop
+    loop_holds
+    slice_write_room
+    add_i
+    loop_less
+    loop_again
     same_length
     returns)

@@ -7,43 +7,43 @@ use borrow.Author.Rules.{rules}
 use Rattle.bench_rooms.proofs.show.bytes.Statement.{statement}
 use Rattle.bench_rooms.proofs.show.bytes.Tie as tie
 
-abbrev invariant-loop : tie.invariant-loop
-invariant-loop s i₀ i-end i = (i ≤ i-end) × (i-end ≡ length s)
+abbrev invariant_loop : tie.invariant-loop
+invariant_loop s i₀ i_end i = (i ≤ i_end) × (i_end ≡ length s)
 
-abbrev decreases-loop : tie.decreases-loop
-decreases-loop s i₀ i-end i = i-end - i
+abbrev decreases_loop : tie.decreases-loop
+decreases_loop s i₀ i_end i = i_end - i
 
-loop-holds : tie.Need-loop-init invariant-loop decreases-loop
-loop-holds c = search rules
+loop_holds : tie.Need-loop-init invariant_loop decreases_loop
+loop_holds c = search rules
 
-shared-slice-read-byte : tie.Need-shared-slice-read-byte invariant-loop decreases-loop
-shared-slice-read-byte c = search rules
+shared_slice_read_byte : tie.Need-shared-slice-read-byte invariant_loop decreases_loop
+shared_slice_read_byte c = search rules
 
-byte-requires : tie.Need-byte-requires invariant-loop decreases-loop
-byte-requires c κs = search rules
+byte_requires : tie.Need-byte-requires invariant_loop decreases_loop
+byte_requires c κs = search rules
 
-add-i : tie.Need-overflow-add-i invariant-loop decreases-loop
-add-i c = search rules
+add_i : tie.Need-overflow-add-i invariant_loop decreases_loop
+add_i c = search rules
 
-loop-less : tie.Need-loop-smaller invariant-loop decreases-loop
-loop-less c = search rules
+loop_less : tie.Need-loop-smaller invariant_loop decreases_loop
+loop_less c = search rules
 
-loop-again : tie.Need-loop-preserved invariant-loop decreases-loop
-loop-again c = search rules
+loop_again : tie.Need-loop-preserved invariant_loop decreases_loop
+loop_again c = search rules
 
-returns : tie.Need-returns invariant-loop decreases-loop
+returns : tie.Need-returns invariant_loop decreases_loop
 returns c = search rules
 
-pub bytes-spec : {M : Type 1} → statement M
-bytes-spec =
+pub bytes_spec : {M : Type 1} → statement M
+bytes_spec =
     tie.close
     (tie.spec
-    invariant-loop
-    decreases-loop
-    loop-holds
-    shared-slice-read-byte
-    byte-requires
-    add-i
-    loop-less
-    loop-again
+    invariant_loop
+    decreases_loop
+    loop_holds
+    shared_slice_read_byte
+    byte_requires
+    add_i
+    loop_less
+    loop_again
     returns)

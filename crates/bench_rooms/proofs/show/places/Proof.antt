@@ -7,63 +7,63 @@ use borrow.Author.Rules.{rules}
 use Rattle.bench_rooms.proofs.show.places.Statement.{statement}
 use Rattle.bench_rooms.proofs.show.places.Tie as tie
 
-abbrev invariant-loop : tie.invariant-loop
-invariant-loop s i₀ t3 i-end i = (i ≤ i-end) × (i-end ≡ length s)
+abbrev invariant_loop : tie.invariant-loop
+invariant_loop s i₀ t3 i_end i = (i ≤ i_end) × (i_end ≡ length s)
 
-abbrev decreases-loop : tie.decreases-loop
-decreases-loop s i₀ t3 i-end i = i-end - i
+abbrev decreases_loop : tie.decreases-loop
+decreases_loop s i₀ t3 i_end i = i_end - i
 
-periods-requires : tie.Need-periods-requires invariant-loop decreases-loop
-periods-requires c κs = search rules
+periods_requires : tie.Need-periods-requires invariant_loop decreases_loop
+periods_requires c κs = search rules
 
-loop-holds : tie.Need-loop-init invariant-loop decreases-loop
-loop-holds c = search rules
+loop_holds : tie.Need-loop-init invariant_loop decreases_loop
+loop_holds c = search rules
 
-shared-slice-read-if1 : tie.Need-shared-slice-read-if1 invariant-loop decreases-loop
-shared-slice-read-if1 c = search rules
+shared_slice_read_if1 : tie.Need-shared-slice-read-if1 invariant_loop decreases_loop
+shared_slice_read_if1 c = search rules
 
-shared-slice-read-wide : tie.Need-shared-slice-read-wide invariant-loop decreases-loop
-shared-slice-read-wide c = search rules
+shared_slice_read_wide : tie.Need-shared-slice-read-wide invariant_loop decreases_loop
+shared_slice_read_wide c = search rules
 
-wide-requires : tie.Need-wide-requires invariant-loop decreases-loop
-wide-requires c κs = search rules
+wide_requires : tie.Need-wide-requires invariant_loop decreases_loop
+wide_requires c κs = search rules
 
-term-requires : tie.Need-term-requires invariant-loop decreases-loop
-term-requires c κs = search rules
+term_requires : tie.Need-term-requires invariant_loop decreases_loop
+term_requires c κs = search rules
 
-add-i : tie.Need-overflow-add-i invariant-loop decreases-loop
-add-i c = search rules
+add_i : tie.Need-overflow-add-i invariant_loop decreases_loop
+add_i c = search rules
 
-loop-less : tie.Need-loop-smaller invariant-loop decreases-loop
-loop-less c = search rules
+loop_less : tie.Need-loop-smaller invariant_loop decreases_loop
+loop_less c = search rules
 
-loop-again : tie.Need-loop-preserved invariant-loop decreases-loop
-loop-again c = search rules
+loop_again : tie.Need-loop-preserved invariant_loop decreases_loop
+loop_again c = search rules
 
-slice-aggregate-text : tie.Need-slice-aggregate-text invariant-loop decreases-loop
-slice-aggregate-text c = search rules
+slice_aggregate_text : tie.Need-slice-aggregate-text invariant_loop decreases_loop
+slice_aggregate_text c = search rules
 
-text-requires : tie.Need-text-requires invariant-loop decreases-loop
-text-requires c κs = search rules
+text_requires : tie.Need-text-requires invariant_loop decreases_loop
+text_requires c κs = search rules
 
-returns : tie.Need-returns invariant-loop decreases-loop
+returns : tie.Need-returns invariant_loop decreases_loop
 returns c = search rules
 
-pub places-spec : {M : Type 1} → statement M
-places-spec =
+pub places_spec : {M : Type 1} → statement M
+places_spec =
     tie.close
     (tie.spec
-    invariant-loop
-    decreases-loop
-    periods-requires
-    loop-holds
-    shared-slice-read-if1
-    shared-slice-read-wide
-    wide-requires
-    term-requires
-    add-i
-    loop-less
-    loop-again
-    slice-aggregate-text
-    text-requires
+    invariant_loop
+    decreases_loop
+    periods_requires
+    loop_holds
+    shared_slice_read_if1
+    shared_slice_read_wide
+    wide_requires
+    term_requires
+    add_i
+    loop_less
+    loop_again
+    slice_aggregate_text
+    text_requires
     returns)

@@ -7,63 +7,63 @@ use borrow.Author.Rules.{rules}
 use Rattle.bench_rooms.proofs.show.terms.Statement.{statement}
 use Rattle.bench_rooms.proofs.show.terms.Tie as tie
 
-abbrev invariant-loop : tie.invariant-loop
-invariant-loop list from i₀ t4 i-end i = i-end ≡ length list
+abbrev invariant_loop : tie.invariant-loop
+invariant_loop list from i₀ t4 i_end i = i_end ≡ length list
 
-abbrev decreases-loop : tie.decreases-loop
-decreases-loop list from i₀ t4 i-end i = i-end - i
+abbrev decreases_loop : tie.decreases-loop
+decreases_loop list from i₀ t4 i_end i = i_end - i
 
-loop-holds : tie.Need-loop-init invariant-loop decreases-loop
-loop-holds c = search rules
+loop_holds : tie.Need-loop-init invariant_loop decreases_loop
+loop_holds c = search rules
 
-mul-if1 : tie.Need-overflow-mul-if1 invariant-loop decreases-loop
-mul-if1 c = search rules
+mul_if1 : tie.Need-overflow-mul-if1 invariant_loop decreases_loop
+mul_if1 c = search rules
 
-shared-slice-read-if1 : tie.Need-shared-slice-read-if1 invariant-loop decreases-loop
-shared-slice-read-if1 c = search rules
+shared_slice_read_if1 : tie.Need-shared-slice-read-if1 invariant_loop decreases_loop
+shared_slice_read_if1 c = search rules
 
-mul-term : tie.Need-overflow-mul-term invariant-loop decreases-loop
-mul-term c = search rules
+mul_term : tie.Need-overflow-mul-term invariant_loop decreases_loop
+mul_term c = search rules
 
-shared-slice-read-term : tie.Need-shared-slice-read-term invariant-loop decreases-loop
-shared-slice-read-term c = search rules
+shared_slice_read_term : tie.Need-shared-slice-read-term invariant_loop decreases_loop
+shared_slice_read_term c = search rules
 
-term-requires : tie.Need-term-requires invariant-loop decreases-loop
-term-requires c κs = search rules
+term_requires : tie.Need-term-requires invariant_loop decreases_loop
+term_requires c κs = search rules
 
-add-i : tie.Need-overflow-add-i invariant-loop decreases-loop
-add-i c = search rules
+add_i : tie.Need-overflow-add-i invariant_loop decreases_loop
+add_i c = search rules
 
-loop-less : tie.Need-loop-smaller invariant-loop decreases-loop
-loop-less c = search rules
+loop_less : tie.Need-loop-smaller invariant_loop decreases_loop
+loop_less c = search rules
 
-loop-again : tie.Need-loop-preserved invariant-loop decreases-loop
-loop-again c = search rules
+loop_again : tie.Need-loop-preserved invariant_loop decreases_loop
+loop_again c = search rules
 
-slice-aggregate-text : tie.Need-slice-aggregate-text invariant-loop decreases-loop
-slice-aggregate-text c = search rules
+slice_aggregate_text : tie.Need-slice-aggregate-text invariant_loop decreases_loop
+slice_aggregate_text c = search rules
 
-text-requires : tie.Need-text-requires invariant-loop decreases-loop
-text-requires c κs = search rules
+text_requires : tie.Need-text-requires invariant_loop decreases_loop
+text_requires c κs = search rules
 
-returns : tie.Need-returns invariant-loop decreases-loop
+returns : tie.Need-returns invariant_loop decreases_loop
 returns c = search rules
 
-pub terms-spec : {M : Type 1} → statement M
-terms-spec =
+pub terms_spec : {M : Type 1} → statement M
+terms_spec =
     tie.close
     (tie.spec
-    invariant-loop
-    decreases-loop
-    loop-holds
-    mul-if1
-    shared-slice-read-if1
-    mul-term
-    shared-slice-read-term
-    term-requires
-    add-i
-    loop-less
-    loop-again
-    slice-aggregate-text
-    text-requires
+    invariant_loop
+    decreases_loop
+    loop_holds
+    mul_if1
+    shared_slice_read_if1
+    mul_term
+    shared_slice_read_term
+    term_requires
+    add_i
+    loop_less
+    loop_again
+    slice_aggregate_text
+    text_requires
     returns)

@@ -6,36 +6,36 @@ use borrow.Author.Rules.{rules}
 use Rattle.algebra.specs.Transform.{image}
 use Rattle.calls_transforms.specs.declared.tests.Tested.TheVariants.{Ready}
 use Rattle.calls_transforms.specs.Tests.{Tells}
-use Rattle.calls_transforms.specs.Transform.{transformOf, Transform}
+use Rattle.calls_transforms.specs.Transform.{transform_of, Transform}
 use Rattle.calls_transforms.proofs.Tested.{kept, is_set, ready, done}
 use Rattle.calls_transforms.proofs.transform.transform.Statement.{statement}
 use Rattle.calls_transforms.proofs.transform.transform.Tie as tie
 
-abbrev at-start : tie.After-s → tie.Start
-at-start c = c.before.before.before.before.before
+abbrev at_start : tie.After-s → tie.Start
+at_start c = c.before.before.before.before.before
 
 -- what the tests told where they passed
-passed : (c : tie.After-s) → let s = at-start c in Tells s.args.set s.args.a.now (length s.args.out.now) (Ready c.s.given.0.0)
+passed : (c : tie.After-s) → let s = at_start c in Tells s.args.set s.args.a.now (length s.args.out.now) (Ready c.s.given.0.0)
 passed c =
-    let s = at-start c in
+    let s = at_start c in
     subst (Tells s.args.set s.args.a.now (length s.args.out.now)) c.s.given.1 c.before.before.test-list.ensures
 
-test-list-requires : tie.Need-test-list-requires
-test-list-requires c κs = tt
+test_list_requires : tie.Need-test-list-requires
+test_list_requires c κs = tt
 
-enum-known-answer : tie.Need-enum-known-answer
-enum-known-answer c = search rules
+enum_known_answer : tie.Need-enum-known-answer
+enum_known_answer c = search rules
 
-enum-known-s : tie.Need-enum-known-s
-enum-known-s c = search rules
+enum_known_s : tie.Need-enum-known-s
+enum_known_s c = search rules
 
-powers-requires : tie.Need-powers-requires
-powers-requires c κs = tt
+powers_requires : tie.Need-powers-requires
+powers_requires c κs = tt
 
-transform-requires : tie.Need-transform-requires
-transform-requires c κs =
+transform_requires : tie.Need-transform-requires
+transform_requires c κs =
     let k = c.before.before.before.before in
-    let s = at-start k in
+    let s = at_start k in
     ready s.args.set s.args.a.now s.args.out.now k.s.given.0.0 (passed k) c.before.before.powers.ensures
 
 returns : tie.Need-returns
@@ -43,31 +43,31 @@ unfolding Transform
 returns c =
     let k = c.before in
     let s = k.before.before.before.before.before in
-    kept s.args.set s.args.a.now s.args.out.now (transformOf s.args.set s.args.a.now) k.answer.given.0.0
+    kept s.args.set s.args.a.now s.args.out.now (transform_of s.args.set s.args.a.now) k.answer.given.0.0
     (subst (Tells s.args.set s.args.a.now (length s.args.out.now)) k.answer.given.1 k.before.before.test-list.ensures)
 
 same_length : tie.Need-same-length
 same_length c = search rules
 
-returns-2 : tie.Need-returns-2
-unfolding Transform transformOf
-returns-2 c =
+returns_2 : tie.Need-returns-2
+unfolding Transform transform_of
+returns_2 c =
     let k = c.before.before.before.before.before.before.before in
-    let s = at-start k in
+    let s = at_start k in
     let t = passed k in
     done s.args.set s.args.a.now s.args.out.now k.s.given.0.0 t (λ p. image p.half p.root s.args.a.now) _
     (c.before.before.transform.ensures
     ∙ ap (λ w. image k.s.given.0.0.half w s.args.a.now) (is_set s.args.set s.args.a.now s.args.out.now k.s.given.0.0 t).root)
 
-pub transform-spec : {M : Type 1} → statement M
-transform-spec =
+pub transform_spec : {M : Type 1} → statement M
+transform_spec =
     tie.close
     (tie.spec
-    test-list-requires
-    enum-known-answer
-    enum-known-s
-    powers-requires
-    transform-requires
+    test_list_requires
+    enum_known_answer
+    enum_known_s
+    powers_requires
+    transform_requires
     returns
     same_length
-    returns-2)
+    returns_2)

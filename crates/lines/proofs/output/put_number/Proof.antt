@@ -2,29 +2,29 @@
 -- Assumes nothing.
 use native.Mathlib.Omega.{arith}
 use Rattle.print.specs.Printing.{decimal}
-use Rattle.print.proofs.WriteLaws.{then-writes}
+use Rattle.print.proofs.WriteLaws.{then_writes}
 use Rattle.lines.specs.Output.{line_of}
-use Rattle.lines.proofs.OutputLaws.{length-line}
+use Rattle.lines.proofs.OutputLaws.{length_line}
 use Rattle.lines.proofs.output.put_number.Statement.{statement}
 use Rattle.lines.proofs.output.put_number.Tie as tie
 
-put-requires : tie.Need-put-requires
-put-requires c κs =
+put_requires : tie.Need-put-requires
+put_requires c κs =
     let s = c.before.before.before in
-    omega (arith, length-line s.args.name.now (decimal s.args.v), s.requires)
+    omega (arith, length_line s.args.name.now (decimal s.args.v), s.requires)
 
-put-decimal-requires : tie.Need-put-decimal-requires
-put-decimal-requires c κs =
+put_decimal_requires : tie.Need-put-decimal-requires
+put_decimal_requires c κs =
     let p = c.before.before.before in
     let s = p.before.before.before.before in
-    (s.requires.0, omega (arith, length-line s.args.name.now (decimal s.args.v), s.requires, p.put.ensures.end))
+    (s.requires.0, omega (arith, length_line s.args.name.now (decimal s.args.v), s.requires, p.put.ensures.end))
 
-put-byte-requires : tie.Need-put-byte-requires
-put-byte-requires c κs =
+put_byte_requires : tie.Need-put-byte-requires
+put_byte_requires c κs =
     let d = c.before.before.before in
     let p = d.before.before.before.before in
     let s = p.before.before.before.before in
-    omega (arith, length-line s.args.name.now (decimal s.args.v), s.requires, p.put.ensures.end, d.put-decimal.ensures.end)
+    omega (arith, length_line s.args.name.now (decimal s.args.v), s.requires, p.put.ensures.end, d.put-decimal.ensures.end)
 
 same_length : tie.Need-same-length
 same_length c = omega arith
@@ -36,10 +36,10 @@ returns c =
     let d = b.before.before.before.before in
     let p = d.before.before.before.before in
     let s = p.before.before.before.before in
-    let room = length-line s.args.name.now (decimal s.args.v) in
-    then-writes p.put.ensures (then-writes d.put-decimal.ensures b.put_byte.ensures (omega (arith, room, s.requires, p.put.ensures.end)))
+    let room = length_line s.args.name.now (decimal s.args.v) in
+    then_writes p.put.ensures (then_writes d.put-decimal.ensures b.put_byte.ensures (omega (arith, room, s.requires, p.put.ensures.end)))
     (omega (arith, s.requires))
 
-pub put-number-spec : {M : Type 1} → statement M
-put-number-spec =
-    tie.close (tie.spec put-requires put-decimal-requires put-byte-requires same_length returns)
+pub put_number_spec : {M : Type 1} → statement M
+put_number_spec =
+    tie.close (tie.spec put_requires put_decimal_requires put_byte_requires same_length returns)

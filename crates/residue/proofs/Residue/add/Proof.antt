@@ -5,16 +5,16 @@ use Rattle.residue.specs.Field.{addq}
 use Rattle.residue.proofs.Residue.add.Statement.{statement}
 use Rattle.residue.proofs.Residue.add.Tie as tie
 
-add-sum : tie.Need-overflow-add-sum
-add-sum c = search rules
+add_sum : tie.Need-overflow-add-sum
+add_sum c = search rules
 
 returns : tie.Need-returns
 unfolding addq
 returns c = search rules
 
-returns-2 : tie.Need-returns-2
+returns_2 : tie.Need-returns-2
 unfolding addq
-returns-2 c = search rules
+returns_2 c = search rules
 
 pub add_spec : {M : Type 1} → statement M
-add_spec = tie.close (tie.spec add-sum returns returns-2)
+add_spec = tie.close (tie.spec add_sum returns returns_2)

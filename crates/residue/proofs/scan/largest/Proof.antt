@@ -9,49 +9,49 @@ use borrow.Author.Rules.{rules}
 use Rattle.residue.proofs.scan.largest.Statement.{statement}
 use Rattle.residue.proofs.scan.largest.Tie as tie
 
-abbrev invariant-loop : tie.invariant-loop
-invariant-loop list most₀ i₀ i-end most i = (i ≤ i-end) × ((k : ℕ) → k < i → get_or list k 0 ≤ most)
+abbrev invariant_loop : tie.invariant-loop
+invariant_loop list most₀ i₀ i_end most i = (i ≤ i_end) × ((k : ℕ) → k < i → get_or list k 0 ≤ most)
 
-abbrev decreases-loop : tie.decreases-loop
-decreases-loop list most₀ i₀ i-end most i = i-end - i
+abbrev decreases_loop : tie.decreases-loop
+decreases_loop list most₀ i₀ i_end most i = i_end - i
 
-loop-holds : tie.Need-loop-init invariant-loop decreases-loop
-loop-holds c = omega arith
+loop_holds : tie.Need-loop-init invariant_loop decreases_loop
+loop_holds c = omega arith
 
-mul-larger : tie.Need-overflow-mul-larger invariant-loop decreases-loop
-mul-larger c = omega arith
+mul_larger : tie.Need-overflow-mul-larger invariant_loop decreases_loop
+mul_larger c = omega arith
 
-shared-slice-read-larger : tie.Need-shared-slice-read-larger invariant-loop decreases-loop
-shared-slice-read-larger c = omega arith
+shared_slice_read_larger : tie.Need-shared-slice-read-larger invariant_loop decreases_loop
+shared_slice_read_larger c = omega arith
 
-larger-requires : tie.Need-larger-requires invariant-loop decreases-loop
-larger-requires c κs = tt
+larger_requires : tie.Need-larger-requires invariant_loop decreases_loop
+larger_requires c κs = tt
 
-add-i : tie.Need-overflow-add-i invariant-loop decreases-loop
-add-i c = omega arith
+add_i : tie.Need-overflow-add-i invariant_loop decreases_loop
+add_i c = omega arith
 
-loop-less : tie.Need-loop-smaller invariant-loop decreases-loop
-loop-less c = omega arith
+loop_less : tie.Need-loop-smaller invariant_loop decreases_loop
+loop_less c = omega arith
 
-loop-again : tie.Need-loop-preserved invariant-loop decreases-loop
-loop-again c =
+loop_again : tie.Need-loop-preserved invariant_loop decreases_loop
+loop_again c =
     let l = c.before.before.before in
     (search rules, below_more _ _ (λ k h. le_trans (l.loop.invariant.1 k h) c.larger.ensures.0) c.larger.ensures.1)
 
-returns : tie.Need-returns invariant-loop decreases-loop
+returns : tie.Need-returns invariant_loop decreases_loop
 returns c = λ i h. c.before.loop.invariant.1 i (omega arith)
 
-pub largest-spec : {M : Type 1} → statement M
-largest-spec =
+pub largest_spec : {M : Type 1} → statement M
+largest_spec =
     tie.close
     (tie.spec
-    invariant-loop
-    decreases-loop
-    loop-holds
-    mul-larger
-    shared-slice-read-larger
-    larger-requires
-    add-i
-    loop-less
-    loop-again
+    invariant_loop
+    decreases_loop
+    loop_holds
+    mul_larger
+    shared_slice_read_larger
+    larger_requires
+    add_i
+    loop_less
+    loop_again
     returns)

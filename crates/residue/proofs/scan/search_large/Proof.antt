@@ -4,67 +4,67 @@ use mathlib.Core.Path.{◌≡◌, sym, ap, ◌∙◌}
 use Prim.Native.Nat.{◌+◌, ◌-◌, ◌≤◌}
 use native.Mathlib.Omega.{arith}
 use lib.ListN.{length, drop, drop_of_length-le}
-use Rattle.lists.proofs.FirstLaws.{first_more, first-here, first-none}
-use Rattle.residue.specs.Large.{tooLarge, firstLarge}
+use Rattle.lists.proofs.FirstLaws.{first_more, first_here, first_none}
+use Rattle.residue.specs.Large.{too_large, first_large}
 use Rattle.residue.proofs.scan.search_large.Statement.{statement}
 use Rattle.residue.proofs.scan.search_large.Tie as tie
 
-abbrev invariant-loop : tie.invariant-loop
-invariant-loop list i₀ i = (i ≤ length list) × (firstLarge list ≡ i + firstLarge (drop i list))
+abbrev invariant_loop : tie.invariant-loop
+invariant_loop list i₀ i = (i ≤ length list) × (first_large list ≡ i + first_large (drop i list))
 
-abbrev decreases-loop : tie.decreases-loop
-decreases-loop list i₀ i = length list - i
+abbrev decreases_loop : tie.decreases-loop
+decreases_loop list i₀ i = length list - i
 
-loop-holds : tie.Need-loop-init invariant-loop decreases-loop
-loop-holds c = omega arith
+loop_holds : tie.Need-loop-init invariant_loop decreases_loop
+loop_holds c = omega arith
 
-mul-too-large : tie.Need-overflow-mul-too-large invariant-loop decreases-loop
-mul-too-large c = omega arith
+mul_too_large : tie.Need-overflow-mul-too-large invariant_loop decreases_loop
+mul_too_large c = omega arith
 
-shared-slice-read-too-large : tie.Need-shared-slice-read-too-large invariant-loop decreases-loop
-shared-slice-read-too-large c = omega arith
+shared_slice_read_too_large : tie.Need-shared-slice-read-too-large invariant_loop decreases_loop
+shared_slice_read_too_large c = omega arith
 
-too-large-requires : tie.Need-too-large-requires invariant-loop decreases-loop
-too-large-requires c κs = tt
+too_large_requires : tie.Need-too-large-requires invariant_loop decreases_loop
+too_large_requires c κs = tt
 
-returns : tie.Need-returns invariant-loop decreases-loop
-unfolding firstLarge
+returns : tie.Need-returns invariant_loop decreases_loop
+unfolding first_large
 returns c =
     let l = c.before.before.before.before in
     let large = sym c.before.too_large.ensures ∙ c.if1.true in
-    omega (arith, first-here tooLarge l.before.before.args.list.now l.loop.i c.before.before.before.loop-test.true large)
+    omega (arith, first_here too_large l.before.before.args.list.now l.loop.i c.before.before.before.loop-test.true large)
 
-add-i : tie.Need-overflow-add-i invariant-loop decreases-loop
-add-i c = omega arith
+add_i : tie.Need-overflow-add-i invariant_loop decreases_loop
+add_i c = omega arith
 
-loop-less : tie.Need-loop-smaller invariant-loop decreases-loop
-loop-less c = omega arith
+loop_less : tie.Need-loop-smaller invariant_loop decreases_loop
+loop_less c = omega arith
 
-loop-again : tie.Need-loop-preserved invariant-loop decreases-loop
-unfolding firstLarge
-loop-again c =
+loop_again : tie.Need-loop-preserved invariant_loop decreases_loop
+unfolding first_large
+loop_again c =
     let l = c.before.before.before.before in
     let small = sym c.before.too_large.ensures ∙ c.if1.false in
-    omega (arith, first_more tooLarge l.before.before.args.list.now l.loop.i c.before.before.before.loop-test.true small)
+    omega (arith, first_more too_large l.before.before.args.list.now l.loop.i c.before.before.before.loop-test.true small)
 
-returns-2 : tie.Need-returns-2 invariant-loop decreases-loop
-unfolding firstLarge
-returns-2 c =
+returns_2 : tie.Need-returns-2 invariant_loop decreases_loop
+unfolding first_large
+returns_2 c =
     let list = c.before.before.before.args.list.now in
-    omega (arith, ap firstLarge (drop_of_length-le list c.loop-test.false), first-none tooLarge)
+    omega (arith, ap first_large (drop_of_length-le list c.loop-test.false), first_none too_large)
 
-pub search-large-spec : {M : Type 1} → statement M
-search-large-spec =
+pub search_large_spec : {M : Type 1} → statement M
+search_large_spec =
     tie.close
     (tie.spec
-    invariant-loop
-    decreases-loop
-    loop-holds
-    mul-too-large
-    shared-slice-read-too-large
-    too-large-requires
+    invariant_loop
+    decreases_loop
+    loop_holds
+    mul_too_large
+    shared_slice_read_too_large
+    too_large_requires
     returns
-    add-i
-    loop-less
-    loop-again
-    returns-2)
+    add_i
+    loop_less
+    loop_again
+    returns_2)

@@ -8,34 +8,34 @@ use Rattle.residue.specs.Field.{generator, addq, mulq, powq}
 use Rattle.slots.proofs.reverse.plus_pair.Statement.{statement}
 use Rattle.slots.proofs.reverse.plus_pair.Tie as tie
 
-add-plus-term : tie.Need-overflow-add-plus-term
-add-plus-term c = omega arith
+add_plus_term : tie.Need-overflow-add-plus-term
+add_plus_term c = omega arith
 
-mul-plus-term : tie.Need-overflow-mul-plus-term
-mul-plus-term c = omega arith
+mul_plus_term : tie.Need-overflow-mul-plus-term
+mul_plus_term c = omega arith
 
-shared-slice-read-plus-term : tie.Need-shared-slice-read-plus-term
-shared-slice-read-plus-term c = omega arith
+shared_slice_read_plus_term : tie.Need-shared-slice-read-plus-term
+shared_slice_read_plus_term c = omega arith
 
-plus-term-requires : tie.Need-plus-term-requires
-plus-term-requires c κs =
+plus_term_requires : tie.Need-plus-term-requires
+plus_term_requires c κs =
     let p = c.before.before.requires in
     (p.0.0, p.0.1.low _ (omega arith), p.1.0, p.1.2)
 
-add-plus-term-2 : tie.Need-overflow-add-plus-term-2
-add-plus-term-2 c = omega arith
+add_plus_term_2 : tie.Need-overflow-add-plus-term-2
+add_plus_term_2 c = omega arith
 
-add-plus-term-3 : tie.Need-overflow-add-plus-term-3
-add-plus-term-3 c = omega arith
+add_plus_term_3 : tie.Need-overflow-add-plus-term-3
+add_plus_term_3 c = omega arith
 
-mul-plus-term-2 : tie.Need-overflow-mul-plus-term-2
-mul-plus-term-2 c = omega arith
+mul_plus_term_2 : tie.Need-overflow-mul-plus-term-2
+mul_plus_term_2 c = omega arith
 
-shared-slice-read-plus-term-2 : tie.Need-shared-slice-read-plus-term-2
-shared-slice-read-plus-term-2 c = omega arith
+shared_slice_read_plus_term_2 : tie.Need-shared-slice-read-plus-term-2
+shared_slice_read_plus_term_2 c = omega arith
 
-plus-term-requires-2 : tie.Need-plus-term-requires-2
-plus-term-requires-2 c κs =
+plus_term_requires_2 : tie.Need-plus-term-requires-2
+plus_term_requires_2 c κs =
     let p = c.before.before.before.before.requires in
     (c.before.plus-term.ensures.1, p.0.1.low _ (omega arith), p.1.1, p.1.2)
 
@@ -48,17 +48,17 @@ returns c =
       c.plus-term2.ensures.1,
     )
 
-pub plus-pair-spec : {M : Type 1} → statement M
-plus-pair-spec =
+pub plus_pair_spec : {M : Type 1} → statement M
+plus_pair_spec =
     tie.close
     (tie.spec
-    add-plus-term
-    mul-plus-term
-    shared-slice-read-plus-term
-    plus-term-requires
-    add-plus-term-2
-    add-plus-term-3
-    mul-plus-term-2
-    shared-slice-read-plus-term-2
-    plus-term-requires-2
+    add_plus_term
+    mul_plus_term
+    shared_slice_read_plus_term
+    plus_term_requires
+    add_plus_term_2
+    add_plus_term_3
+    mul_plus_term_2
+    shared_slice_read_plus_term_2
+    plus_term_requires_2
     returns)

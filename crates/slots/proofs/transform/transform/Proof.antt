@@ -5,77 +5,77 @@ use Prim.Native.Nat.{◌+◌, ◌-◌}
 use native.Mathlib.Omega.{arith}
 use Rattle.residue.specs.Field.{generator, powq}
 use Rattle.algebra.specs.Transform.{exponent, value, image}
-use Rattle.lists.proofs.Fill.{Fill, fill_start, fill-turn, fill_end}
-use Rattle.residue.proofs.PowerLaws.{powq-mul}
-use Rattle.residue.proofs.ResiduesLaws.{own-length}
-use Rattle.slots.proofs.ReadyLaws.{half-small, root-log, exponent-below}
+use Rattle.lists.proofs.Fill.{Fill, fill_start, fill_turn, fill_end}
+use Rattle.residue.proofs.PowerLaws.{powq_mul}
+use Rattle.residue.proofs.ResiduesLaws.{own_length}
+use Rattle.slots.proofs.ReadyLaws.{half_small, root_log, exponent_below}
 use Rattle.slots.proofs.transform.transform.Statement.{statement}
 use Rattle.slots.proofs.transform.transform.Tie as tie
 
-abbrev invariant-loop : tie.invariant-loop
-invariant-loop half step a powers out₀ k₀ k-end out k =
-    (k-end ≡ half + half) × Fill (λ i. value (half + half) a (powq (powq generator step) (exponent i))) (half + half) out k
+abbrev invariant_loop : tie.invariant-loop
+invariant_loop half step a powers out₀ k₀ k_end out k =
+    (k_end ≡ half + half) × Fill (λ i. value (half + half) a (powq (powq generator step) (exponent i))) (half + half) out k
 
-abbrev decreases-loop : tie.decreases-loop
-decreases-loop half step a powers out₀ k₀ k-end out k = half + half - k
+abbrev decreases_loop : tie.decreases-loop
+decreases_loop half step a powers out₀ k₀ k_end out k = half + half - k
 
-add-k-end : tie.Need-overflow-add-k-end invariant-loop decreases-loop
-add-k-end c = omega (arith, half-small c.before.before.requires.0)
+add_k_end : tie.Need-overflow-add-k-end invariant_loop decreases_loop
+add_k_end c = omega (arith, half_small c.before.before.requires.0)
 
-loop-holds : tie.Need-loop-init invariant-loop decreases-loop
-loop-holds c = (omega arith, fill_start _ c.before.before.requires.2)
+loop_holds : tie.Need-loop-init invariant_loop decreases_loop
+loop_holds c = (omega arith, fill_start _ c.before.before.requires.2)
 
-slot-log-requires : tie.Need-slot-log-requires invariant-loop decreases-loop
-slot-log-requires c κs =
+slot_log_requires : tie.Need-slot-log-requires invariant_loop decreases_loop
+slot_log_requires c κs =
     let s = c.before.before.before.before in
-    (omega (arith, half-small s.requires.0), root-log s.requires.0 _ (exponent-below s.args.half c.before.loop.k (omega arith)))
+    (omega (arith, half_small s.requires.0), root_log s.requires.0 _ (exponent_below s.args.half c.before.loop.k (omega arith)))
 
-value-requires : tie.Need-value-requires invariant-loop decreases-loop
-value-requires c κs =
+value_requires : tie.Need-value-requires invariant_loop decreases_loop
+value_requires c κs =
     let s = c.before.before.before.before.before in
-    let below = root-log s.requires.0 _ (exponent-below s.args.half c.before.before.loop.k (omega arith)) in
-    (own-length s.requires.1, omega (arith, below), s.requires.0.table)
+    let below = root_log s.requires.0 _ (exponent_below s.args.half c.before.before.loop.k (omega arith)) in
+    (own_length s.requires.1, omega (arith, below), s.requires.0.table)
 
-mul-out : tie.Need-overflow-mul-out invariant-loop decreases-loop
-mul-out c = omega arith
+mul_out : tie.Need-overflow-mul-out invariant_loop decreases_loop
+mul_out c = omega arith
 
-slice-write-out : tie.Need-slice-write-out invariant-loop decreases-loop
-slice-write-out c = omega arith
+slice_write_out : tie.Need-slice-write-out invariant_loop decreases_loop
+slice_write_out c = omega arith
 
-add-k : tie.Need-overflow-add-k invariant-loop decreases-loop
-add-k c = omega arith
+add_k : tie.Need-overflow-add-k invariant_loop decreases_loop
+add_k c = omega arith
 
-loop-less : tie.Need-loop-smaller invariant-loop decreases-loop
-loop-less c = omega arith
+loop_less : tie.Need-loop-smaller invariant_loop decreases_loop
+loop_less c = omega arith
 
-loop-again : tie.Need-loop-preserved invariant-loop decreases-loop
-loop-again c =
+loop_again : tie.Need-loop-preserved invariant_loop decreases_loop
+loop_again c =
     let s = c.before.before.before.before.before.before in
     let l = c.before.before.before.loop in
-    let point = ap (powq generator) c.before.slot-log.ensures ∙ powq-mul generator s.args.step (exponent l.k) in
-    (l.invariant.0, fill-turn l.invariant.1 _ (omega arith) (c.value.ensures ∙ ap₂ (λ n x. value n s.args.a.now x) s.requires.1.long point))
+    let point = ap (powq generator) c.before.slot-log.ensures ∙ powq_mul generator s.args.step (exponent l.k) in
+    (l.invariant.0, fill_turn l.invariant.1 _ (omega arith) (c.value.ensures ∙ ap₂ (λ n x. value n s.args.a.now x) s.requires.1.long point))
 
-same_length : tie.Need-same-length invariant-loop decreases-loop
+same_length : tie.Need-same-length invariant_loop decreases_loop
 same_length c = omega arith
 
-returns : tie.Need-returns invariant-loop decreases-loop
+returns : tie.Need-returns invariant_loop decreases_loop
 unfolding image
 returns c = fill_end c.before.loop.invariant.1 (omega arith)
 
-pub transform-spec : {M : Type 1} → statement M
-transform-spec =
+pub transform_spec : {M : Type 1} → statement M
+transform_spec =
     tie.close
     (tie.spec
-    invariant-loop
-    decreases-loop
-    add-k-end
-    loop-holds
-    slot-log-requires
-    value-requires
-    mul-out
-    slice-write-out
-    add-k
-    loop-less
-    loop-again
+    invariant_loop
+    decreases_loop
+    add_k_end
+    loop_holds
+    slot_log_requires
+    value_requires
+    mul_out
+    slice_write_out
+    add_k
+    loop_less
+    loop_again
     same_length
     returns)

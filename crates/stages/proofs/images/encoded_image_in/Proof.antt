@@ -8,53 +8,53 @@ use Rattle.residue.specs.Field.{generator, powq}
 use Rattle.residue.specs.Residues.{Residues}
 use Rattle.algebra.specs.Transform.{image}
 use Rattle.stages.specs.Images.{image_of}
-use Rattle.stages.proofs.ImageLaws.{encoded-residues}
+use Rattle.stages.proofs.ImageLaws.{encoded_residues}
 use Rattle.stages.proofs.images.encoded_image_in.Statement.{statement}
 use Rattle.stages.proofs.images.encoded_image_in.Tie as tie
 
 -- ---- earlier moments, each from a later one
 
-abbrev at-start : tie.After-encode → tie.Start
-at-start c = c.before.before.before.before.before.before.before.before.before.before
+abbrev at_start : tie.After-encode → tie.Start
+at_start c = c.before.before.before.before.before.before.before.before.before.before
 
-encode-requires : tie.Need-encode-requires
-encode-requires c κs = search rules
+encode_requires : tie.Need-encode-requires
+encode_requires c κs = search rules
 
-transform-requires : tie.Need-transform-requires
-transform-requires c κs =
-    let s = at-start c.before.before.before.before.before.before.before.before in (
+transform_requires : tie.Need-transform-requires
+transform_requires c κs =
+    let s = at_start c.before.before.before.before.before.before.before.before in (
       s.pre.0.0,
       subst (Residues (s.args.half + s.args.half)) (sym c.before.before.before.before.before.before.before.before.encode.ensures)
-          (encoded-residues s.args.message.now s.args.block.now (omega (arith, s.pre))),
+          (encoded_residues s.args.message.now s.args.block.now (omega (arith, s.pre))),
       s.pre.1.3,
     )
 
 same_length : tie.Need-same-length
 same_length c = search rules
 
-same-length-2 : tie.Need-same-length-2
-same-length-2 c = search rules
+same_length_2 : tie.Need-same-length-2
+same_length_2 c = search rules
 
-same-length-3 : tie.Need-same-length-3
-same-length-3 c = search rules
+same_length_3 : tie.Need-same-length-3
+same_length_3 c = search rules
 
-same-length-4 : tie.Need-same-length-4
-same-length-4 c = search rules
+same_length_4 : tie.Need-same-length-4
+same_length_4 c = search rules
 
 returns : tie.Need-returns
 unfolding image_of
 returns c =
-    let s = at-start c.before.before.before.before.before.before.before.before.before.before.before in
+    let s = at_start c.before.before.before.before.before.before.before.before.before.before.before in
     c.before.before.transform.ensures ∙ ap (image s.args.half (powq generator s.args.step)) c.before.before.before.before.before.before.before.before.before.before.before.encode.ensures
 
-pub encoded-image-in-spec : {M : Type 1} → statement M
-encoded-image-in-spec =
+pub encoded_image_in_spec : {M : Type 1} → statement M
+encoded_image_in_spec =
     tie.close
     (tie.spec
-    encode-requires
-    transform-requires
+    encode_requires
+    transform_requires
     same_length
-    same-length-2
-    same-length-3
-    same-length-4
+    same_length_2
+    same_length_3
+    same_length_4
     returns)

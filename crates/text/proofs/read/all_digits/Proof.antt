@@ -6,56 +6,56 @@ use native.Mathlib.Omega.{arith}
 use lib.ListN.{drop}
 use borrow.Author.Rules.{rules}
 use borrow.Author.Tests.{not-true, not-false}
-use Rattle.text.specs.Numerals.{allDigits}
-use Rattle.text.proofs.NumeralLaws.{digits_more, digits-not, digits-none}
+use Rattle.text.specs.Numerals.{all_digits}
+use Rattle.text.proofs.NumeralLaws.{digits_more, digits_not, digits_none}
 use Rattle.text.proofs.read.all_digits.Statement.{statement}
 use Rattle.text.proofs.read.all_digits.Tie as tie
 
-abbrev invariant-loop : tie.invariant-loop
-invariant-loop s i₀ i-end i = (i ≤ i-end) × (allDigits s ≡ allDigits (drop i s))
+abbrev invariant_loop : tie.invariant-loop
+invariant_loop s i₀ i_end i = (i ≤ i_end) × (all_digits s ≡ all_digits (drop i s))
 
-abbrev decreases-loop : tie.decreases-loop
-decreases-loop s i₀ i-end i = i-end - i
+abbrev decreases_loop : tie.decreases-loop
+decreases_loop s i₀ i_end i = i_end - i
 
-loop-holds : tie.Need-loop-init invariant-loop decreases-loop
-loop-holds c = search rules
+loop_holds : tie.Need-loop-init invariant_loop decreases_loop
+loop_holds c = search rules
 
-shared-slice-read-is-digit : tie.Need-shared-slice-read-is-digit invariant-loop decreases-loop
-shared-slice-read-is-digit c = omega arith
+shared_slice_read_is_digit : tie.Need-shared-slice-read-is-digit invariant_loop decreases_loop
+shared_slice_read_is_digit c = omega arith
 
-is-digit-requires : tie.Need-is-digit-requires invariant-loop decreases-loop
-is-digit-requires c κs = tt
+is_digit_requires : tie.Need-is-digit-requires invariant_loop decreases_loop
+is_digit_requires c κs = tt
 
-returns : tie.Need-returns invariant-loop decreases-loop
+returns : tie.Need-returns invariant_loop decreases_loop
 returns c =
     let l = c.before.before.before.before in
-    sym (l.loop.invariant.1 ∙ digits-not _ l.loop.i (omega arith) (sym c.before.is_digit.ensures ∙ not-true _ c.if1.true))
+    sym (l.loop.invariant.1 ∙ digits_not _ l.loop.i (omega arith) (sym c.before.is_digit.ensures ∙ not-true _ c.if1.true))
 
-add-i : tie.Need-overflow-add-i invariant-loop decreases-loop
-add-i c = omega arith
+add_i : tie.Need-overflow-add-i invariant_loop decreases_loop
+add_i c = omega arith
 
-loop-less : tie.Need-loop-smaller invariant-loop decreases-loop
-loop-less c = omega arith
+loop_less : tie.Need-loop-smaller invariant_loop decreases_loop
+loop_less c = omega arith
 
-loop-again : tie.Need-loop-preserved invariant-loop decreases-loop
-loop-again c =
+loop_again : tie.Need-loop-preserved invariant_loop decreases_loop
+loop_again c =
     let l = c.before.before.before.before in
     (search rules, l.loop.invariant.1 ∙ digits_more _ l.loop.i (omega arith) (sym c.before.is_digit.ensures ∙ not-false _ c.if1.false))
 
-returns-2 : tie.Need-returns-2 invariant-loop decreases-loop
-returns-2 c = sym (c.before.loop.invariant.1 ∙ digits-none _ c.before.loop.i (omega arith))
+returns_2 : tie.Need-returns-2 invariant_loop decreases_loop
+returns_2 c = sym (c.before.loop.invariant.1 ∙ digits_none _ c.before.loop.i (omega arith))
 
-pub all-digits-spec : {M : Type 1} → statement M
-all-digits-spec =
+pub all_digits_spec : {M : Type 1} → statement M
+all_digits_spec =
     tie.close
     (tie.spec
-    invariant-loop
-    decreases-loop
-    loop-holds
-    shared-slice-read-is-digit
-    is-digit-requires
+    invariant_loop
+    decreases_loop
+    loop_holds
+    shared_slice_read_is_digit
+    is_digit_requires
     returns
-    add-i
-    loop-less
-    loop-again
-    returns-2)
+    add_i
+    loop_less
+    loop_again
+    returns_2)

@@ -3,39 +3,39 @@
 use mathlib.Core.Path.{refl}
 use Prim.Native.Nat.{◌-◌}
 use borrow.Author.Rules.{rules}
-use Rattle.lists.proofs.Fill.{Fill, fill_start, fill-turn, fill_end}
+use Rattle.lists.proofs.Fill.{Fill, fill_start, fill_turn, fill_end}
 use Rattle.text.specs.Polynomials.{zeros}
 use Rattle.text.proofs.read.clear.Statement.{statement}
 use Rattle.text.proofs.read.clear.Tie as tie
 
-abbrev invariant-loop : tie.invariant-loop
-invariant-loop list₀ n i₀ list i = Fill (λ _. 0) n list i
+abbrev invariant_loop : tie.invariant-loop
+invariant_loop list₀ n i₀ list i = Fill (λ _. 0) n list i
 
-abbrev decreases-loop : tie.decreases-loop
-decreases-loop list₀ n i₀ list i = n - i
+abbrev decreases_loop : tie.decreases-loop
+decreases_loop list₀ n i₀ list i = n - i
 
-loop-holds : tie.Need-loop-init invariant-loop decreases-loop
-loop-holds c = fill_start _ refl
+loop_holds : tie.Need-loop-init invariant_loop decreases_loop
+loop_holds c = fill_start _ refl
 
-mul-list : tie.Need-overflow-mul-list invariant-loop decreases-loop
-mul-list c = search rules
+mul_list : tie.Need-overflow-mul-list invariant_loop decreases_loop
+mul_list c = search rules
 
-slice-write-list : tie.Need-slice-write-list invariant-loop decreases-loop
-slice-write-list c = search rules
+slice_write_list : tie.Need-slice-write-list invariant_loop decreases_loop
+slice_write_list c = search rules
 
-add-i : tie.Need-overflow-add-i invariant-loop decreases-loop
-add-i c = search rules
+add_i : tie.Need-overflow-add-i invariant_loop decreases_loop
+add_i c = search rules
 
-loop-less : tie.Need-loop-smaller invariant-loop decreases-loop
-loop-less c = search rules
+loop_less : tie.Need-loop-smaller invariant_loop decreases_loop
+loop_less c = search rules
 
-loop-again : tie.Need-loop-preserved invariant-loop decreases-loop
-loop-again c = fill-turn c.before.loop.invariant _ c.loop-test.true refl
+loop_again : tie.Need-loop-preserved invariant_loop decreases_loop
+loop_again c = fill_turn c.before.loop.invariant _ c.loop-test.true refl
 
-same_length : tie.Need-same-length invariant-loop decreases-loop
+same_length : tie.Need-same-length invariant_loop decreases_loop
 same_length c = search rules
 
-returns : tie.Need-returns invariant-loop decreases-loop
+returns : tie.Need-returns invariant_loop decreases_loop
 unfolding zeros
 returns c = fill_end c.before.loop.invariant c.loop-test.false
 
@@ -43,13 +43,13 @@ pub clear_spec : {M : Type 1} → statement M
 clear_spec =
     tie.close
     (tie.spec
-    invariant-loop
-    decreases-loop
-    loop-holds
-    mul-list
-    slice-write-list
-    add-i
-    loop-less
-    loop-again
+    invariant_loop
+    decreases_loop
+    loop_holds
+    mul_list
+    slice_write_list
+    add_i
+    loop_less
+    loop_again
     same_length
     returns)

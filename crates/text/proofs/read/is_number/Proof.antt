@@ -8,11 +8,11 @@ use Rattle.text.specs.Numerals.{is_number}
 use Rattle.text.proofs.read.is_number.Statement.{statement}
 use Rattle.text.proofs.read.is_number.Tie as tie
 
-all-digits-requires : tie.Need-all-digits-requires
-all-digits-requires c κs = tt
+all_digits_requires : tie.Need-all-digits-requires
+all_digits_requires c κs = tt
 
-unpadded-requires : tie.Need-unpadded-requires
-unpadded-requires c κs = tt
+unpadded_requires : tie.Need-unpadded-requires
+unpadded_requires c κs = tt
 
 returns : tie.Need-returns
 unfolding is_number
@@ -21,5 +21,5 @@ returns c =
     let size = length d.before.before.args.s.now in
     ap₂ (λ x y. leb 1 size && (leb size 5 && (x && y))) d.all_digits.ensures c.unpadded.ensures
 
-pub is-number-spec : {M : Type 1} → statement M
-is-number-spec = tie.close (tie.spec all-digits-requires unpadded-requires returns)
+pub is_number_spec : {M : Type 1} → statement M
+is_number_spec = tie.close (tie.spec all_digits_requires unpadded_requires returns)

@@ -2,24 +2,24 @@
 -- Assumes nothing.
 use mathlib.Core.Path.{ap, ap₂, ◌∙◌}
 use Rattle.text.specs.Numerals.{number}
-use Rattle.text.specs.Terms.{termOf, term}
+use Rattle.text.specs.Terms.{term_of, term}
 use Rattle.text.proofs.read.term.Statement.{statement}
 use Rattle.text.proofs.read.term.Tie as tie
 
-up-to-requires : tie.Need-up-to-requires
-up-to-requires c κs = tt
+up_to_requires : tie.Need-up-to-requires
+up_to_requires c κs = tt
 
-number-requires : tie.Need-number-requires
-number-requires c κs = tt
+number_requires : tie.Need-number-requires
+number_requires c κs = tt
 
-past-requires : tie.Need-past-requires
-past-requires c κs = tt
+past_requires : tie.Need-past-requires
+past_requires c κs = tt
 
-number-requires-2 : tie.Need-number-requires-2
-number-requires-2 c κs = tt
+number_requires_2 : tie.Need-number-requires-2
+number_requires_2 c κs = tt
 
-term-of-requires : tie.Need-term-of-requires
-term-of-requires c κs = tt
+term_of_requires : tie.Need-term-of-requires
+term_of_requires c κs = tt
 
 returns : tie.Need-returns
 unfolding term
@@ -28,15 +28,15 @@ returns c =
     let p = n.before in
     let m = p.before in
     c.term_of.ensures
-    ∙ ap₂ termOf (m.number.ensures ∙ ap number m.before.up_to_lem.ensures) (n.number2.ensures ∙ ap number p.past.ensures)
+    ∙ ap₂ term_of (m.number.ensures ∙ ap number m.before.up_to_lem.ensures) (n.number2.ensures ∙ ap number p.past.ensures)
 
-pub term-spec : {M : Type 1} → statement M
-term-spec =
+pub term_spec : {M : Type 1} → statement M
+term_spec =
     tie.close
     (tie.spec
-    up-to-requires
-    number-requires
-    past-requires
-    number-requires-2
-    term-of-requires
+    up_to_requires
+    number_requires
+    past_requires
+    number_requires_2
+    term_of_requires
     returns)

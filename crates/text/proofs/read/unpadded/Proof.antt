@@ -2,18 +2,18 @@
 -- Assumes nothing.
 use mathlib.Core.Path.{sym}
 use borrow.Author.Rules.{rules}
-use Rattle.text.proofs.NumeralLaws.{unpadded-short, unpadded-long}
+use Rattle.text.proofs.NumeralLaws.{unpadded_short, unpadded_long}
 use Rattle.text.proofs.read.unpadded.Statement.{statement}
 use Rattle.text.proofs.read.unpadded.Tie as tie
 
-shared-slice-read-result : tie.Need-shared-slice-read-result
-shared-slice-read-result c = search rules
+shared_slice_read_result : tie.Need-shared-slice-read-result
+shared_slice_read_result c = search rules
 
 returns : tie.Need-returns
-returns c = sym (unpadded-short _ c.if1.true)
+returns c = sym (unpadded_short _ c.if1.true)
 
-returns-2 : tie.Need-returns-2
-returns-2 c = sym (unpadded-long _ c.before.if1.false)
+returns_2 : tie.Need-returns-2
+returns_2 c = sym (unpadded_long _ c.before.if1.false)
 
-pub unpadded-spec : {M : Type 1} → statement M
-unpadded-spec = tie.close (tie.spec shared-slice-read-result returns returns-2)
+pub unpadded_spec : {M : Type 1} → statement M
+unpadded_spec = tie.close (tie.spec shared_slice_read_result returns returns_2)

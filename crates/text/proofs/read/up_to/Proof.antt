@@ -5,22 +5,22 @@ use native.Mathlib.Omega.{arith}
 use lib.Dec.{eqb}
 use lib.ListN.{take}
 use lib.Seq.{length-take-le}
-use Rattle.lists.proofs.FirstLaws.{first-within}
+use Rattle.lists.proofs.FirstLaws.{first_within}
 use Rattle.text.specs.Lines.{up_to}
 use Rattle.text.proofs.read.up_to.Statement.{statement}
 use Rattle.text.proofs.read.up_to.Tie as tie
 
-find-requires : tie.Need-find-requires
-find-requires c κs = tt
+find_requires : tie.Need-find-requires
+find_requires c κs = tt
 
-slice-aggregate-result : tie.Need-slice-aggregate-result
-slice-aggregate-result c =
+slice_aggregate_result : tie.Need-slice-aggregate-result
+slice_aggregate_result c =
     let a = c.before.before.before.args in
-    sym (length-take-le _ _ (omega (arith, c.before.find.ensures, first-within (eqb a.byte) a.s.now)))
+    sym (length-take-le _ _ (omega (arith, c.before.find.ensures, first_within (eqb a.byte) a.s.now)))
 
 returns : tie.Need-returns
 unfolding up_to
 returns c = ap (λ k. take k c.before.before.before.args.s.now) c.before.find.ensures
 
-pub up-to-spec : {M : Type 1} → statement M
-up-to-spec = tie.close (tie.spec find-requires slice-aggregate-result returns)
+pub up_to_spec : {M : Type 1} → statement M
+up_to_spec = tie.close (tie.spec find_requires slice_aggregate_result returns)
