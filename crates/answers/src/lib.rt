@@ -1,10 +1,11 @@
 // What a call can answer, and what a set number decides.
+#![tactic(auto)]
 ghost use Rattle.std.specs.Prelude.{◌≡◌, cond, ◌+◌, ◌<◌, ltb};
 ghost use Rattle.answers.specs.Answers.{number_of, place_of};
 ghost use Rattle.answers.specs.Sets.{set_of};
 
 // A case holds what document 01 gives it: nothing, or the place.
-#[derive(Drop)]
+#[derive(Clone, Copy)]
 pub enum Answer {
     Done,
     UnknownSet,
@@ -47,7 +48,7 @@ pub fn place(answer: Answer) -> usize
 }
 
 // What a set number decides: n, half of it, the slots, the root and the step with root = 7^step, and every length of the table of calls.
-#[derive(Drop)]
+#[derive(Clone, Copy)]
 pub struct Parameters {
     pub n: usize,
     pub half: usize,
@@ -63,7 +64,7 @@ pub struct Parameters {
     pub key: usize,
 }
 
-#[derive(Drop)]
+#[derive(Clone, Copy)]
 pub enum SetChoice {
     Known(Parameters),
     Unknown,

@@ -1,7 +1,7 @@
 // The lengths of document 01's table.
 
 // Those of one set. A key that is agreed on has 32 bytes.
-#[derive(Drop)]
+#[derive(Clone, Copy)]
 pub struct Lengths {
     pub n: usize,
     pub seed: usize,

@@ -1,4 +1,5 @@
 // bench runs the public calls and prints what they answered and wrote. It reads nothing.
+#![tactic(auto)]
 mod agreement;
 mod cases;
 mod lengths;

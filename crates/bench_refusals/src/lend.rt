@@ -3,7 +3,7 @@ use answers::Answer;
 use bench_rooms::room;
 
 // The nine calls whose row the table has.
-#[derive(Drop)]
+#[derive(Clone, Copy)]
 pub enum Call {
     Product,
     Transform,
@@ -17,7 +17,7 @@ pub enum Call {
 }
 
 // The set number, the n that decides the lengths, and the buffer whose length is one above or below: inputs from 0 on, outputs from 4 on.
-#[derive(Drop)]
+#[derive(Clone, Copy)]
 pub struct Lent {
     pub set: usize,
     pub n: usize,

@@ -1,3 +1,4 @@
 // The rooms that the bench lends to the calls, and what it prints of them.
+#![tactic(auto)]
 pub mod room;
 pub mod show;

@@ -52,7 +52,7 @@ pub fn list_mut(room: &mut [u16], n: usize) -> &mut [u16] {
 }
 
 // A place and the byte that is put there.
-#[derive(Drop)]
+#[derive(Clone, Copy)]
 pub struct At(pub usize, pub u8);
 
 // Stores a byte, if the room has the place.

@@ -1,4 +1,5 @@
 // Two lists of n numbers to their product.
+#![tactic(auto)]
 ghost use Rattle.calls_product.specs.Product.{Product};
 
 use answers::{Answer, SetChoice};

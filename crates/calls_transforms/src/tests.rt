@@ -4,7 +4,7 @@ ghost use Rattle.calls_transforms.specs.Tests.{Tells};
 use answers::{Answer, Parameters, SetChoice};
 
 // The set's parameters where no refusal applies.
-#[derive(Drop)]
+#[derive(Clone, Copy)]
 pub enum Tested {
     Ready(Parameters),
     Refused(Answer),

@@ -1,5 +1,6 @@
 // The public calls, exported for C and for Rust: nothing but wrappers. A buffer comes as a pointer and a length, and the answer goes as its
 // number and its place.
+#![tactic(auto)]
 ghost use Rattle.std.specs.Prelude.{◌≡◌};
 ghost use Rattle.answers.specs.Answers.{number_of, place_of};
 ghost use Rattle.calls_product.specs.Product.{Product};
@@ -18,7 +19,7 @@ use answers::Answer;
 
 // An exported function can't return an enum.
 #[repr(C)]
-#[derive(Drop)]
+#[derive(Clone, Copy)]
 pub struct PlainAnswer {
     pub number: usize,
     pub place: usize,
@@ -26,7 +27,7 @@ pub struct PlainAnswer {
 
 // An exported function can't return a reference either: where a part of a lent buffer begins, and how long it is.
 #[repr(C)]
-#[derive(Drop)]
+#[derive(Clone, Copy)]
 pub struct Part {
     pub start: usize,
     pub length: usize,

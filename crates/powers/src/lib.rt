@@ -1,4 +1,5 @@
 // The table of all 3,456 powers of 7: named by one function, lent from there, and looked up.
+#![tactic(auto)]
 ghost use Rattle.std.specs.Prelude.{◌≡◌, ◌<◌};
 ghost use Rattle.residue.specs.Field.{q, one, generator, powq};
 ghost use Rattle.powers.specs.Powers.{Powers};

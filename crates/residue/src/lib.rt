@@ -1,4 +1,6 @@
 // Residues modulo 3457 and their steps. Sums and differences compare and subtract; `mul` alone reduces.
+#![tactic(auto)]
+
 ghost use Rattle.std.specs.Prelude.{◌≡◌, ◌<◌};
 ghost use Rattle.residue.specs.Field.{q, addq, subq, negq, mulq, powq, invq};
 ghost use Rattle.residue.specs.Signed.{centred, by_three, centred_by_three};
@@ -6,7 +8,7 @@ ghost use Rattle.residue.specs.Signed.{centred, by_three, centred_by_three};
 pub mod scan;
 
 // A residue modulo 3457, by the number below 3457 that stands for it.
-#[derive(Drop)]
+#[derive(Clone, Copy)]
 pub struct Residue(pub u16);
 
 impl Residue {

@@ -1,4 +1,5 @@
 // Working room for a call, long enough for the larger set. It holds zeros at first.
+#![tactic(auto)]
 ghost use Rattle.std.specs.Prelude.{◌≡◌, length};
 
 // For n numbers.
