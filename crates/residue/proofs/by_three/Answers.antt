@@ -1,17 +1,15 @@
 -- `residue::by_three` meets its contract: the machine's remainder is one of -2, -1, 0, 1, 2, and each is tried.
 -- Assumes nothing.
-use mathlib.Core.Path.{◌≡◌, refl, sym, ap, ◌∙◌, subst}
-use Prim.Native.Nat.{ℕ, zero, suc, ◌%◌, ◌/◌, ◌<◌}
+use mathlib.Core.Path.{◌≡◌, refl, sym, ap, ◌∙◌}
+use Prim.Native.Nat.{ℕ, zero, suc, ◌%◌, ◌<◌}
 use native.Mathlib.Omega.{arith}
 use lib.IntN.{ℤ, pos, negsuc, neg_ℤ}
-use lib.Signed.{quot_z, rem_z}
+use lib.Signed.{rem_z}
 use mir.Facts.{to_z-of_z}
 use mir.Syntax.{w32}
-use mir.Val.{SFits, to_z, of_z}
+use mir.Val.{to_z, of_z}
 use Rattle.residue.specs.Signed.{by_three, around_zero}
-use Rattle.residue.proofs.Machine.{negative_fits}
-use Rattle.residue.proofs.by_three.Statement.{statement}
-use Rattle.residue.proofs.by_three.Tie as tie
+use Rattle.residue.proofs.by_three.Goals as goal
 
 thirds : (P : ℕ → Type 0) → P 0 → P 1 → P 2 → (r : ℕ) → r < 3 → P r
 thirds P a b c zero h = a
@@ -42,25 +40,14 @@ others =
     remainders (λ m t. (of_z w32 m ≡ 2 → ⊥) → (of_z w32 m ≡ 4294967294 → ⊥) → to_z w32 (of_z w32 m) ≡ t) (λ f g. absurd (g refl))
     (λ f g. refl) (λ f g. refl) (λ f g. refl) (λ f g. absurd (f refl))
 
-quotient_fits : (z : ℤ) → SFits w32 z → SFits w32 (quot_z z (pos 3))
-quotient_fits (pos n) h = record { sfits = omega (arith, h.sfits) }
-quotient_fits (negsuc n) h = negative_fits (suc n / 3) (omega (arith, h.sfits))
+pub returns-then-m-eq2 : goal.returns-then-m-eq2
+returns-then-m-eq2 c =
+    sym (two (to_z w32 (of_z w32 c.args.value)) c.if-m-eq2.true) ∙ ap by_three (to_z-of_z c.ranges.value)
 
-rem_m : tie.Need-nonzero-rem-m
-rem_m c = (omega arith, subst (λ z. SFits w32 (quot_z z (pos 3))) (sym (to_z-of_z c.ranges.value)) (quotient_fits c.args.value c.ranges.value))
+pub returns-then-m : goal.returns-then-m
+returns-then-m c =
+    sym (minus_two (to_z w32 (of_z w32 c.args.value)) c.if-m.true) ∙ ap by_three (to_z-of_z c.ranges.value)
 
-returns : tie.Need-returns
-returns c = sym (two (to_z w32 (of_z w32 c.before.args.value)) c.if1.true) ∙ ap by_three (to_z-of_z c.before.ranges.value)
-
-returns_2 : tie.Need-returns-2
-returns_2 c =
-    let s = c.before.before in
-    sym (minus_two (to_z w32 (of_z w32 s.args.value)) c.if2.true) ∙ ap by_three (to_z-of_z s.ranges.value)
-
-returns_3 : tie.Need-returns-3
-returns_3 c =
-    let s = c.before.before in
-    others (to_z w32 (of_z w32 s.args.value)) c.before.if1.false c.if2.false ∙ ap by_three (to_z-of_z s.ranges.value)
-
-pub by_three_spec : {M : Type 1} → statement M
-by_three_spec = tie.close (tie.spec rem_m returns returns_2 returns_3)
+pub returns-else-m : goal.returns-else-m
+returns-else-m c =
+    others (to_z w32 (of_z w32 c.args.value)) c.if-m-eq2.false c.if-m.false ∙ ap by_three (to_z-of_z c.ranges.value)
