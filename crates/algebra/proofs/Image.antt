@@ -22,7 +22,7 @@ partner_low h j l = rw (lt-ltb j h l)
 
 pub partner_high : (h j : ℕ) → partner h (h + j) ≡ j
 unfolding partner
-partner_high h j = rw (le-ltb (h + j) h (omega arith)) (N.add_sub_cancel_left h j)
+partner_high h j = rw (le-ltb (h + j) h (omega arith)) (N.add-sub_cancel_left h j)
 
 module _ (R : Ring) where
   open R use {num, neg as ν}

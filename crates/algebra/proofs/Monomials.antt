@@ -60,7 +60,7 @@ module _ (R : Ring) where
       by : Dec (i ≤ m) → schoolbook num (single i) (single j) m ≡ single (i + j) m
       by (yes l) =
           sum_single R (suc m) i _ (omega arith) (λ t _ ne. rw (single_off i t ne, nil_mul)) ∙ rw (single_on i, one_mul)
-          (sym (ap (single (i + j)) (sym (N.add_sub_of_le l)) ∙ single_shift i j (m - i)))
+          (sym (ap (single (i + j)) (sym (N.add-sub_of_le l)) ∙ single_shift i j (m - i)))
       by (no l) =
           sum_nil R (suc m) _ (λ t h. rw (single_off i t (omega arith), nil_mul)) ∙ sym (single_off (i + j) m (omega arith))
 

@@ -99,11 +99,11 @@ module _ (R : Ring) (h : ℕ) (w u c : R.num.C) (ω : Root R h w u c) where
 
   -- w^i u^j is w^(i - j) or u^(j - i)
   ratio_w : (i j : ℕ) → j ≤ i → pow R w i ⊗ pow R u j ≡ pow R w (i - j)
-  ratio_w i j l = rw (ap (pow R w) (sym (N.sub_add_cancel l)) ∙ pow_add R w (i - j) j, mul_assoc, undo, mul_one)
+  ratio_w i j l = rw (ap (pow R w) (sym (N.sub-add_cancel l)) ∙ pow_add R w (i - j) j, mul_assoc, undo, mul_one)
 
   ratio_u : (i j : ℕ) → i ≤ j → pow R w i ⊗ pow R u j ≡ pow R u (j - i)
   ratio_u i j l =
-      rw (ap (pow R u) (sym (N.sub_add_cancel l)) ∙ pow_add R u (j - i) i, mul_comm R (pow R u (j - i)) (pow R u i), ← mul_assoc R (pow R w i) (pow R u i) (pow R u (j - i)), undo, one_mul)
+      rw (ap (pow R u) (sym (N.sub-add_cancel l)) ∙ pow_add R u (j - i) i, mul_comm R (pow R u (j - i)) (pow R u i), ← mul_assoc R (pow R w i) (pow R u i) (pow R u (j - i)), undo, one_mul)
 
   -- so it is for v^d = w^i u^j
   pub vanish : (i j : ℕ) → i < h → j < h → i ≢ j → sum num h (pow R (pow R (pow R w i ⊗ pow R u j) 6)) ≡ 𝟘

@@ -1,5 +1,6 @@
 // What a call can answer, and what a set number decides.
 #![tactic(auto)]
+
 ghost use Rattle.std.specs.Prelude.{◌≡◌, cond, ◌+◌, ◌<◌, ltb};
 ghost use Rattle.answers.specs.Answers.{number_of, place_of};
 ghost use Rattle.answers.specs.Sets.{set_of};

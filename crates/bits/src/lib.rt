@@ -1,5 +1,6 @@
 // The listing: bytes to bits, block by block, and back. A block is 16 rows; row l holds bit l of each 16-bit half word in turn.
 #![tactic(auto)]
+
 ghost use Rattle.std.specs.Prelude.{◌≡◌, ◌∷◌, ◌+◌, ◌-◌, ◌*◌, ◌/◌, ◌%◌, ◌≤◌, ◌<◌, length, get_or};
 ghost use Rattle.lists.specs.Tab.{tab};
 ghost use Rattle.lists.specs.Below.{Below};

@@ -1,5 +1,6 @@
 // Marks: a byte for each coefficient of a small polynomial, 0, 1, or 2 for -1.
 #![tactic(auto)]
+
 ghost use Rattle.std.specs.Prelude.{◌≡◌, map, ◌<◌, length};
 ghost use Rattle.lists.specs.First.{first_where};
 ghost use Rattle.lists.specs.Below.{Below};

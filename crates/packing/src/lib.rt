@@ -1,5 +1,6 @@
 // Packing of residues into bytes, and back: loops over the pairs, each number and each byte read once.
 #![tactic(auto)]
+
 ghost use Rattle.std.specs.Prelude.{◌≡◌, ◌*◌, ◌/◌, ◌%◌, length};
 ghost use Rattle.residue.specs.Large.{first_large};
 ghost use Rattle.residue.specs.Residues.{Residues};

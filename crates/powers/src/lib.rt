@@ -1,5 +1,6 @@
 // The table of all 3,456 powers of 7: named by one function, lent from there, and looked up.
 #![tactic(auto)]
+
 ghost use Rattle.std.specs.Prelude.{◌≡◌, ◌<◌};
 ghost use Rattle.residue.specs.Field.{q, one, generator, powq};
 ghost use Rattle.powers.specs.Powers.{Powers};
@@ -8,7 +9,7 @@ use residue::Residue;
 
 // The whole table. A caller makes it once and lends it: a constant is built anew wherever it is named.
 pub fn powers() -> [u16; 3456]
-    ensures* { do first ← (⟦Residue::ONE.0⟧).entry; g ← (⟦Residue::GENERATOR.0⟧).entry; ⌜ Powers g first result ⌝ }
+    ensures { Powers Residue.GENERATOR.0 Residue.ONE.0 result }
 {
     POWERS
 }

@@ -1,9 +1,6 @@
 -- `bits::first_block` meets its contract: the first of the four lengths that the bits hold, by one law for all four.
 -- Assumes nothing.
-use mathlib.Core.Path.{refl}
-use mathlib.Core.List.{[], ◌∷◌}
-use Prim.Native.Nat.{◌≤◌}
-use native.Mathlib.Omega.{arith}
+use Rattle.std.proofs.Common.{◌∷◌, [], ◌≤◌, refl, arith}
 use Rattle.bits.specs.Blocks.{block_lengths, blocks}
 use Rattle.bits.proofs.Blocks.{Short, cut_first}
 use Rattle.bits.proofs.first_block.Goals as goal
@@ -29,5 +26,5 @@ returns-then-left-ge64 c =
 pub returns : goal.returns
 unfolding blocks block_lengths Short
 returns c =
-    let h : 32 ≤ c.args.left = omega (arith, c.requires) in
+    let h : 32 ≤ c.args.left = omega arith in
     (cut_first (256 ∷ 128 ∷ 64 ∷ []) 32 _ _ (c.if-left-ge256.false, (c.if-left-ge128.false, (c.if-left-ge64.false, tt))) (omega arith) h, omega arith, h, refl)

@@ -1,14 +1,8 @@
--- `bits::list` meets its contract: block by block, each written after those before it.
+-- The loop of `bits::list`: block by block, each written after those before it.
 -- Assumes nothing.
-use mathlib.Core.Path.{◌≡◌, refl, sym, ap, ◌∙◌}
-use Prim.Native.Nat.{◌+◌, ◌-◌, ◌/◌, ◌≤◌}
-use native.Mathlib.Omega.{arith}
-use lib.ListN.{length, take, drop}
-use borrow.Rule.Slice.PartMut.{mid_len}
-use Rattle.bits.specs.Blocks.{blocks, blockwise}
+use Rattle.std.proofs.Common.{◌-◌, ◌/◌}
 use Rattle.bits.specs.Listing.{listed_block, listed}
-use Rattle.bits.proofs.Blockwise.{Progress, progress_start, progress_turn, progress_end}
-use Rattle.bits.proofs.BlockLaws.{length_listed_block}
+use Rattle.bits.proofs.Blockwise.{Progress}
 use Rattle.bits.proofs.list.Given as goal
 
 abbrev pub invariant-loop-at : goal.invariant-loop-at

@@ -1,14 +1,8 @@
--- `bits::unlist` meets its contract: block by block, each written after those before it.
+-- The loop of `bits::unlist`: block by block, each written after those before it.
 -- Assumes nothing.
-use mathlib.Core.Path.{◌≡◌, refl, ap, ◌∙◌}
-use Prim.Native.Nat.{◌+◌, ◌-◌, ◌/◌, ◌≤◌}
-use native.Mathlib.Omega.{arith}
-use lib.ListN.{length, take, drop}
-use borrow.Rule.Slice.PartMut.{mid_len}
-use Rattle.lists.proofs.BelowLaws.{below_take, below_drop}
+use Rattle.std.proofs.Common.{◌-◌, ◌/◌, length}
 use Rattle.bits.specs.Listing.{unlisted_block, unlisted}
-use Rattle.bits.proofs.Blockwise.{Progress, progress_start, progress_turn, progress_end}
-use Rattle.bits.proofs.BlockLaws.{length_unlisted_block}
+use Rattle.bits.proofs.Blockwise.{Progress}
 use Rattle.bits.proofs.unlist.Given as goal
 
 abbrev pub invariant-loop-at : goal.invariant-loop-at

@@ -3,12 +3,8 @@
 use mathlib.Core.Path.{refl}
 use Rattle.residue.specs.Field.{mulq}
 use Rattle.powers.proofs.TableLaws.{chain, powers_of}
-use Rattle.powers.proofs.powers.Statement.{statement}
-use Rattle.powers.proofs.powers.Tie as tie
+use Rattle.powers.proofs.powers.Goals as goal
 
-returns : tie.Need-returns
+pub returns : goal.returns
 unfolding chain mulq
 returns c = powers_of _ _ _ refl refl
-
-pub powers_spec : {M : Type 1} → statement M
-powers_spec = tie.close (tie.spec returns)

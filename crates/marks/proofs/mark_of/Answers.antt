@@ -7,8 +7,7 @@ use mir.Syntax.{w32}
 use mir.Val.{of_z}
 use Rattle.marks.specs.Marks.{Small, mark_of}
 use Rattle.marks.proofs.MarkLaws.{small_by}
-use Rattle.marks.proofs.mark_of.Statement.{statement}
-use Rattle.marks.proofs.mark_of.Tie as tie
+use Rattle.marks.proofs.mark_of.Goals as goal
 
 nothing : (z : ℤ) → Small z → of_z w32 z ≡ 0 → 0 ≡ mark_of z
 unfolding mark_of
@@ -22,14 +21,11 @@ others : (z : ℤ) → Small z → (of_z w32 z ≡ 0 → ⊥) → (of_z w32 z �
 unfolding mark_of
 others = small_by (λ z. (of_z w32 z ≡ 0 → ⊥) → (of_z w32 z ≡ 1 → ⊥) → 2 ≡ mark_of z) (λ f g. absurd (f refl)) (λ f g. absurd (g refl)) (λ f g. refl)
 
-returns : tie.Need-returns
-returns c = nothing c.before.args.value c.before.requires c.if1.true
+pub returns-then-value-eq0 : goal.returns-then-value-eq0
+returns-then-value-eq0 c = nothing c.args.value c.requires c.if-value-eq0.true
 
-returns_2 : tie.Need-returns-2
-returns_2 c = let s = c.before.before in one s.args.value s.requires c.if2.true
+pub returns-then-value-eq1 : goal.returns-then-value-eq1
+returns-then-value-eq1 c = one c.args.value c.requires c.if-value-eq1.true
 
-returns_3 : tie.Need-returns-3
-returns_3 c = let s = c.before.before in others s.args.value s.requires c.before.if1.false c.if2.false
-
-pub mark_of_spec : {M : Type 1} → statement M
-mark_of_spec = tie.close (tie.spec returns returns_2 returns_3)
+pub returns-else-value-eq1 : goal.returns-else-value-eq1
+returns-else-value-eq1 c = others c.args.value c.requires c.if-value-eq0.false c.if-value-eq1.false
