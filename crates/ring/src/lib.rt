@@ -1,5 +1,6 @@
 // The plain product on slices of n = 2h residues: schoolbook, folded by x^n = x^(n/2) - 1.
 #![tactic(auto)]
+
 ghost use Rattle.std.specs.Prelude.{◌≡◌, ◌+◌, ◌-◌, ◌<◌, ◌≤◌, length, get_or};
 ghost use Rattle.residue.specs.Field.{q, addq, subq, mulq};
 ghost use Rattle.residue.specs.Residues.{Residues};

@@ -1,5 +1,6 @@
 // Images worked on slot by slot: sum, difference, product, inverses; the first slot that is zero; whether two lists are equal.
 #![tactic(auto)]
+
 ghost use Rattle.std.specs.Prelude.{◌≡◌, length};
 ghost use Rattle.lists.specs.First.{first_where};
 ghost use Rattle.lists.specs.Every.{equal};

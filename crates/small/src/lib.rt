@@ -1,5 +1,6 @@
 // Small polynomials sampled from bytes, and the bits of a block's halves. Coefficients are written as residues, -1 as 3456.
 #![tactic(auto)]
+
 ghost use Rattle.std.specs.Prelude.{◌++◌, map, ◌≡◌, ◌+◌, ◌*◌, ◌%◌, ◌<◌, pos, ◌-ℤ◌, length, get_or};
 ghost use Rattle.lists.specs.Tab.{tab};
 ghost use Rattle.lists.specs.Below.{Below};

@@ -1,0 +1,26 @@
+-- `coefficient` meets its contract: the places that count, below n and from n on.
+-- Assumes nothing.
+use mathlib.Core.Path.{◌∙◌}
+use native.Mathlib.Omega.{arith}
+use Rattle.residue.proofs.ResiduesLaws.{own_length}
+use Rattle.ring.proofs.Sums.{sum_low}
+use Rattle.ring.proofs.ProductLaws.{dot_all, dot_within}
+use Rattle.ring.proofs.coefficient.Goals as goal
+
+pub dot-requires : goal.dot-requires
+dot-requires c =
+    let p = c.requires in
+    record { residues = (own_length p.0, own_length p.1); from_value = (omega (arith, p.1.long), omega arith, omega (arith, p.0.long), omega arith) }
+
+pub dot-requires-else-m-n : goal.dot-requires-else-m-n
+dot-requires-else-m-n c =
+    let p = c.requires in
+    record { residues = (own_length p.0, own_length p.1); from_value = (omega (arith, p.1.long), omega arith, omega (arith, p.0.long), omega arith) }
+
+pub returns-then-m-n : goal.returns-then-m-n
+returns-then-m-n c =
+    let s = c.args in
+    (c.dot.ensures ∙ dot_all s.a.now s.b.now s.m, sum_low _ _ c.dot.ensures)
+
+pub returns-else-m-n : goal.returns-else-m-n
+returns-else-m-n c = (c.dot-else-m-n.ensures ∙ dot_within c.args.a.now c.args.b.now c.args.m c.requires.0.long (omega arith), sum_low _ _ c.dot-else-m-n.ensures)

@@ -1,0 +1,36 @@
+-- `text::read::value` meets its contract: the first i digits are summed up, and the rest goes on from their sum.
+-- Assumes nothing.
+use mathlib.Core.Path.{◌≡◌, refl, sym, ◌∙◌}
+use Prim.Native.Nat.{◌-◌, ◌^◌, ◌≤◌, ◌<◌}
+use native.Mathlib.Omega.{arith}
+use lib.ListN.{drop}
+use borrow.Author.Rules.{rules}
+use Rattle.text.specs.Numerals.{spelled}
+use Rattle.text.proofs.NumeralLaws.{digit_at, spelled_more, spelled_none, is_number_lem, power_more, power_few}
+use Rattle.text.proofs.read.value.Goals as goal
+
+pub loop-i-init : goal.loop-i-init
+loop-i-init c = (search rules, refl, omega arith)
+
+pub overflow_mul-sum : goal.overflow_mul-sum
+overflow_mul-sum c =
+    let small : c.loop-i.sum < 100000 = power_few _ c.loop-i.i (omega (arith, (is_number_lem _ c.requires).few)) c.loop-i.invariant.2 in
+    omega (arith, small)
+
+pub digit-requires : goal.digit-requires
+digit-requires c = digit_at _ (is_number_lem _ c.requires).digits c.loop-i.i (omega arith)
+
+pub overflow_add-sum : goal.overflow_add-sum
+overflow_add-sum c =
+    let small : c.loop-i.sum < 100000 = power_few _ c.loop-i.i (omega (arith, (is_number_lem _ c.requires).few)) c.loop-i.invariant.2 in
+    omega (arith, small, c.digit.ensures)
+
+pub loop-i-preserved : goal.loop-i-preserved
+loop-i-preserved c = (
+  search rules,
+  c.loop-i.invariant.1 ∙ spelled_more _ c.loop-i.i c.loop-i.sum (omega arith) ∙ rw c.digit.ensures.0 refl,
+  power_more c.loop-i.sum c.digit.result c.loop-i.i c.loop-i.invariant.2 c.digit.ensures.1,
+)
+
+pub returns : goal.returns
+returns c = sym (c.loop-i.invariant.1 ∙ spelled_none _ c.loop-i.i c.loop-i.sum (omega arith))
