@@ -1,5 +1,6 @@
 // Two lists of n numbers to their product.
 #![tactic(auto)]
+
 ghost use Rattle.calls_product.specs.Product.{Product};
 
 use answers::{Answer, SetChoice};

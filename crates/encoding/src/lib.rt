@@ -1,5 +1,6 @@
 // A message as a small polynomial, and back. Coefficients are written as residues, -1 as 3456, and read as marks.
 #![tactic(auto)]
+
 ghost use Rattle.std.specs.Prelude.{map, ◌≡◌, ◌+◌, ◌*◌, ◌%◌, ◌<◌, length, get_or};
 ghost use Rattle.lists.specs.Tab.{tab};
 ghost use Rattle.lists.specs.Below.{Below};

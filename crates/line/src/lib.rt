@@ -1,5 +1,6 @@
 // ringline as one function from the input's bytes to the printed bytes.
 #![tactic(auto)]
+
 ghost use Rattle.std.specs.Prelude.{◌≡◌, ◌≤◌, length};
 ghost use Rattle.print.specs.Write.{Writes};
 ghost use Rattle.line.specs.Chosen.{Chosen};

@@ -1,5 +1,6 @@
 // Printing into a lent buffer: each function writes its text from the place `at` on and answers the place after it.
 #![tactic(auto)]
+
 ghost use Rattle.std.specs.Prelude.{◌≡◌, [], ◌∷◌, ◌+◌, ◌<◌, ◌≤◌, length};
 ghost use Rattle.print.specs.Printing.{digits, width, decimal, printed_term, printed_polynomial};
 ghost use Rattle.print.specs.Places.{printed_place};

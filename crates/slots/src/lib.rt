@@ -1,4 +1,5 @@
 // The plain transforms on slices of n = 2h residues: each slot by its value, and back by sums over the slots.
 #![tactic(auto)]
+
 pub mod reverse;
 pub mod transform;

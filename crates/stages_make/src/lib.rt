@@ -1,5 +1,6 @@
 // Making a pair: the images of f and g, and the two keys. In what is not public, `halves` is room for 2n bits, `p` and `q` for n numbers.
 #![tactic(auto)]
+
 ghost use Rattle.std.specs.Prelude.{◌≡◌, ◌++◌, map, ◌+◌, ◌*◌, ◌/◌, ◌%◌, ◌≤◌, length};
 ghost use Rattle.residue.specs.Field.{generator, mulq, powq};
 ghost use Rattle.residue.specs.Residues.{Residues};

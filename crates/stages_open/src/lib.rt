@@ -1,5 +1,6 @@
 // Opening's first stage: m and the image of r, from a ciphertext and the two images of a private key. In what is not public, `p` and `q` are room for n numbers.
 #![tactic(auto)]
+
 ghost use Rattle.std.specs.Prelude.{◌≡◌, map, ◌+◌, length};
 ghost use Rattle.residue.specs.Field.{generator, powq};
 ghost use Rattle.residue.specs.Residues.{Residues};

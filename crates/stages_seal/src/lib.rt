@@ -1,5 +1,6 @@
 // The steps of sealing, on slices of the right lengths: the image of r, that of h*r + m, and the key. Nothing is refused here.
 #![tactic(auto)]
+
 ghost use Rattle.std.specs.Prelude.{◌≡◌, ◌+◌, ◌*◌, ◌%◌, ◌≤◌, length};
 ghost use Rattle.residue.specs.Field.{generator, powq};
 ghost use Rattle.residue.specs.Residues.{Residues};

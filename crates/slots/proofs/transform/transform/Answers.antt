@@ -1,0 +1,36 @@
+-- `slots::transform::transform` meets its contract: the slots are filled from the left.
+-- Assumes nothing.
+use mathlib.Core.Path.{◌≡◌, ap, ap₂, ◌∙◌}
+use Prim.Native.Nat.{◌+◌, ◌-◌}
+use native.Mathlib.Omega.{arith}
+use Rattle.residue.specs.Field.{generator, powq}
+use Rattle.algebra.specs.Transform.{exponent, value, image}
+use Rattle.lists.proofs.Fill.{Fill, fill_start, fill_turn, fill_end}
+use Rattle.residue.proofs.PowerLaws.{powq_mul}
+use Rattle.residue.proofs.ResiduesLaws.{own_length}
+use Rattle.slots.proofs.ReadyLaws.{half_small, root_log, exponent_below}
+use Rattle.slots.proofs.transform.transform.Goals as goal
+
+pub overflow_add-k-end : goal.overflow_add-k-end
+overflow_add-k-end c = omega (arith, half_small c.requires.0)
+
+pub loop-k-init : goal.loop-k-init
+loop-k-init c = (omega arith, fill_start _ c.requires.2)
+
+pub slot_log-requires : goal.slot_log-requires
+slot_log-requires c = (omega (arith, half_small c.requires.0), root_log c.requires.0 _ (exponent_below c.args.half c.loop-k.k (omega arith)))
+
+pub value-requires : goal.value-requires
+value-requires c =
+    let below = root_log c.requires.0 _ (exponent_below c.args.half c.loop-k.k (omega arith)) in
+    (own_length c.requires.1, omega (arith, below), c.requires.0.table)
+
+pub loop-k-preserved : goal.loop-k-preserved
+loop-k-preserved c =
+    let l = c.loop-k in
+    let point = ap (powq generator) c.slot_log.ensures ∙ powq_mul generator c.args.step (exponent l.k) in
+    (l.invariant.0, fill_turn l.invariant.1 _ (omega arith) (c.value.ensures ∙ ap₂ (λ n x. value n c.args.a.now x) c.requires.1.long point))
+
+pub returns : goal.returns
+unfolding image
+returns c = fill_end c.loop-k.invariant.1 (omega arith)

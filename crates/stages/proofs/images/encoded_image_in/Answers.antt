@@ -1,0 +1,24 @@
+-- `encoded_image_in` meets its contract: what is encoded is transformed.
+-- Assumes nothing.
+use mathlib.Core.Path.{sym, ap, ◌∙◌, subst}
+use Prim.Native.Nat.{◌+◌}
+use native.Mathlib.Omega.{arith}
+use borrow.Author.Rules.{rules}
+use Rattle.residue.specs.Field.{generator, powq}
+use Rattle.residue.specs.Residues.{Residues}
+use Rattle.algebra.specs.Transform.{image}
+use Rattle.stages.specs.Images.{image_of}
+use Rattle.stages.proofs.ImageLaws.{encoded_residues}
+use Rattle.stages.proofs.images.encoded_image_in.Goals as goal
+
+pub transform-requires : goal.transform-requires
+transform-requires c = (
+  c.requires.ready.0,
+  subst (Residues (c.args.half + c.args.half)) (sym c.encode.ensures)
+      (encoded_residues c.args.message.now c.args.block.now (omega (arith, c.requires))),
+  c.requires.bits_len.3,
+)
+
+pub returns : goal.returns
+unfolding image_of
+returns c = c.transform.ensures ∙ ap (image c.args.half (powq generator c.args.step)) c.encode.ensures

@@ -1,0 +1,22 @@
+-- `sampled_image_in` meets its contract: what is sampled is transformed.
+-- Assumes nothing.
+use mathlib.Core.Path.{sym, ap, ◌∙◌, subst}
+use Prim.Native.Nat.{◌+◌}
+use borrow.Author.Rules.{rules}
+use Rattle.residue.specs.Field.{generator, powq}
+use Rattle.residue.specs.Residues.{Residues}
+use Rattle.algebra.specs.Transform.{image}
+use Rattle.stages.specs.Images.{image_of}
+use Rattle.stages.proofs.ImageLaws.{sampled_residues}
+use Rattle.stages.proofs.images.sampled_image_in.Goals as goal
+
+pub transform-requires : goal.transform-requires
+transform-requires c = (
+  c.requires.ready.0,
+  subst (Residues (c.args.half + c.args.half)) (sym c.sample.ensures) (sampled_residues c.args.block.now c.requires.ready.2),
+  c.requires.halves_len.2,
+)
+
+pub returns : goal.returns
+unfolding image_of
+returns c = c.transform.ensures ∙ ap (image c.args.half (powq generator c.args.step)) c.sample.ensures
