@@ -1,5 +1,6 @@
 // A seed block to a pair of keys.
 #![tactic(auto)]
+
 ghost use Rattle.std.specs.Prelude.{[], ◌∷◌, ◌≡◌, ◌+◌, ◌*◌, ◌%◌, ◌≤◌, length};
 ghost use Rattle.residue.specs.Field.{generator, powq};
 ghost use Rattle.algebra.specs.SlotBySlot.{is_zero};

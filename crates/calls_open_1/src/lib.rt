@@ -1,5 +1,6 @@
 // A private key and a ciphertext to marks and the packed image of r.
 #![tactic(auto)]
+
 ghost use Rattle.std.specs.Prelude.{[], ◌∷◌, ◌≡◌, ◌+◌, ◌*◌, ◌/◌, ◌%◌, ◌≤◌, length};
 ghost use Rattle.lists.specs.First.{first_through};
 ghost use Rattle.residue.specs.Field.{generator, powq};

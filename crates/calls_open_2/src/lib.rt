@@ -1,5 +1,6 @@
 // Marks to the message that they decode to.
 #![tactic(auto)]
+
 ghost use Rattle.std.specs.Prelude.{[], ◌∷◌, ◌≡◌, ◌*◌, ◌%◌, length};
 ghost use Rattle.marks.specs.Marks.{no_mark};
 ghost use Rattle.answers.specs.Replies.{reply, leaves, Outcome};

@@ -1,5 +1,6 @@
 // The key of an H block, where the lent image is that of its r.
 #![tactic(auto)]
+
 ghost use Rattle.std.specs.Prelude.{cond, [], ◌∷◌, ◌≡◌, ◌+◌, ◌*◌, ◌%◌, length};
 ghost use Rattle.lists.specs.Every.{equal};
 ghost use Rattle.residue.specs.Field.{generator, powq};

@@ -1,5 +1,6 @@
 // An H block to the packed image of its r, which the host hashes to a G block.
 #![tactic(auto)]
+
 ghost use Rattle.std.specs.Prelude.{◌≡◌, ◌+◌, ◌*◌, ◌%◌, length};
 ghost use Rattle.residue.specs.Field.{generator, powq};
 ghost use Rattle.packing.specs.Packing.{packed};

@@ -1,7 +1,7 @@
 -- ringline, from the input's bytes to the printed bytes: "Tests in order: input above 32,768 bytes (7, place 0); form of line 1
 -- (7, place 1); set known (1); line 2, line 3, .. (7, place 2 or 3); bytes after line 3 (7, place 4)." Assumes nothing: these are definitions.
 use Rattle.std.specs.Prelude.{cond, List, ℕ, eqb, ltb, length}
-use Rattle.std.proofs.Math.Option.{Option·elim}
+use Rattle.std.proofs.Math.Option.{Option-elim}
 use Rattle.answers.specs.Sets.{set_of, for_set}
 use Rattle.calls_product.specs.Product.{product_of}
 use Rattle.text.specs.Lines.{lf, past}
@@ -15,8 +15,8 @@ printed input =
     cond (ltb 32768 (length input)) (answer_lines 7 0)
     (for_number (set_in input) (answer_lines 7 1)
     (λ set. for_set (set_of set) (answer_lines 1 0)
-    (λ s. Option·elim (polynomial_in a_name s.n (past lf input)) (answer_lines 7 2)
-    (λ a. Option·elim (polynomial_in b_name s.n (past lf (past lf input))) (answer_lines 7 3)
+    (λ s. Option-elim (polynomial_in a_name s.n (past lf input)) (answer_lines 7 2)
+    (λ a. Option-elim (polynomial_in b_name s.n (past lf (past lf input))) (answer_lines 7 3)
     (λ b. cond (eqb (length (past lf (past lf (past lf input)))) 0) (product_lines set (product_of set a b)) (answer_lines 7 4))))))
 
 -- the promise of `line`: r bytes are printed, at the start of the buffer that held `before` and then holds `after`
