@@ -1,5 +1,6 @@
 // bench runs the public calls and prints what they answered and wrote. It reads nothing.
 #![tactic(auto)]
+
 mod agreement;
 mod cases;
 mod lengths;

@@ -1,5 +1,6 @@
 // bench_refusals runs each public call on buffers that are one off, and on other inputs that it refuses. It prints what was answered, and whether the outputs were kept, and reads nothing.
 #![tactic(auto)]
+
 mod cases;
 mod lend;
 mod trial;

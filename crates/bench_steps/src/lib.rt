@@ -1,6 +1,7 @@
 // Inner steps, exported so that a benchmark can measure them; no part of libface.a. Each tests what its step asks for, and where that fails
 // it does nothing. No list is longer than 4,096, so that no length overflows.
 #![tactic(auto)]
+
 use residue::scan;
 
 #[unsafe(no_mangle)]

@@ -1,6 +1,7 @@
 // The public calls, exported for C and for Rust: nothing but wrappers. A buffer comes as a pointer and a length, and the answer goes as its
 // number and its place.
 #![tactic(auto)]
+
 ghost use Rattle.std.specs.Prelude.{◌≡◌};
 ghost use Rattle.answers.specs.Answers.{number_of, place_of};
 ghost use Rattle.calls_product.specs.Product.{Product};

@@ -1,5 +1,6 @@
 // ringline reads standard input and prints what `line` makes of it.
 #![tactic(auto)]
+
 ghost use Rattle.std.specs.Prelude.{◌≡◌, length};
 
 // One byte more than an input may have, so that a longer one is told apart.

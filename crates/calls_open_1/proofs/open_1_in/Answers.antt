@@ -114,4 +114,4 @@ returns c =
     let image = c.pack.new.bytes in
     X.in_range_lem (Holds marks image) inputs (reply 0 0) clear Done
     (X.done (Holds marks image)
-    (c.open.ensures.marks_after ∙ ap₂ (λ f c. map mark_of (opened_m c.args.half (powq generator c.args.step) f c)) f_is c_is, c.pack.ensures ∙ ap packed R_is))
+    (c.open.ensures.marks_after ∙ ap₂ (λ x y. map mark_of (opened_m c.args.half (powq generator c.args.step) x y)) f_is c_is, c.pack.ensures ∙ ap packed R_is))

@@ -1,0 +1,13 @@
+-- `rl_open_1` keeps its promise: what it hands out is the number and the place of the answer with which `open_1` kept its own.
+-- Assumes nothing.
+use borrow.Author.Rules.{rules}
+use Rattle.face.proofs.rl_open_1.Goals as goal
+
+pub returns : goal.returns
+returns c =
+    record {
+      answer = _;
+      kept = c.open_1.ensures;
+      number_is = c.plain.ensures.0;
+      place_is = c.plain.ensures.1;
+    }
