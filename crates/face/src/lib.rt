@@ -1,5 +1,5 @@
-// The public calls, exported for C and for Rust: nothing but wrappers. A buffer comes as a pointer and a length, and the answer goes as its
-// number and its place.
+// The public calls as C and Rust call them: nothing but wrappers. A buffer comes as a pointer and a length, and the answer goes as its
+// number and its place. `face_c` exports them.
 #![tactic(auto)]
 
 ghost use Rattle.std.specs.Prelude.{◌≡◌};
@@ -43,48 +43,37 @@ fn plain(answer: Answer) -> PlainAnswer
     }
 }
 
-#[unsafe(no_mangle)]
-pub extern "C" fn rl_product(set: usize, a: &[u16], b: &[u16], out: &mut [u16]) -> PlainAnswer
+pub fn rl_product(set: usize, a: &[u16], b: &[u16], out: &mut [u16]) -> PlainAnswer
     ensures { Exported (λ answer. Product set a.now b.now out.old answer out.new) result.number result.place }
 {
     plain(calls_product::product(set, a, b, out))
 }
 
-#[unsafe(no_mangle)]
-pub extern "C" fn rl_transform(set: usize, a: &[u16], out: &mut [u16]) -> PlainAnswer
+pub fn rl_transform(set: usize, a: &[u16], out: &mut [u16]) -> PlainAnswer
     ensures { Exported (λ answer. Transform set a.now out.old answer out.new) result.number result.place }
 {
     plain(calls_transforms::transform::transform(set, a, out))
 }
 
-#[unsafe(no_mangle)]
-pub extern "C" fn rl_reverse(set: usize, a: &[u16], out: &mut [u16]) -> PlainAnswer
+pub fn rl_reverse(set: usize, a: &[u16], out: &mut [u16]) -> PlainAnswer
     ensures { Exported (λ answer. Reverse set a.now out.old answer out.new) result.number result.place }
 {
     plain(calls_transforms::reverse::reverse(set, a, out))
 }
 
-#[unsafe(no_mangle)]
-pub extern "C" fn rl_make(
-    set: usize,
-    seed: &[u8],
-    public: &mut [u8],
-    private: &mut [u8],
-) -> PlainAnswer
+pub fn rl_make(set: usize, seed: &[u8], public: &mut [u8], private: &mut [u8]) -> PlainAnswer
     ensures { Exported (λ answer. Make set seed.now public.old private.old answer public.new private.new) result.number result.place }
 {
     plain(calls_make::make(set, seed, public, private))
 }
 
-#[unsafe(no_mangle)]
-pub extern "C" fn rl_r_image(set: usize, hblock: &[u8], image: &mut [u8]) -> PlainAnswer
+pub fn rl_r_image(set: usize, hblock: &[u8], image: &mut [u8]) -> PlainAnswer
     ensures { Exported (λ answer. RImage set hblock.now image.old answer image.new) result.number result.place }
 {
     plain(calls_r_image::r_image(set, hblock, image))
 }
 
-#[unsafe(no_mangle)]
-pub extern "C" fn rl_seal(
+pub fn rl_seal(
     set: usize,
     public: &[u8],
     message: &[u8],
@@ -98,8 +87,7 @@ pub extern "C" fn rl_seal(
     plain(calls_seal::seal(set, public, message, hblock, gblock, cipher, key))
 }
 
-#[unsafe(no_mangle)]
-pub extern "C" fn rl_open_1(
+pub fn rl_open_1(
     set: usize,
     private: &[u8],
     cipher: &[u8],
@@ -111,27 +99,19 @@ pub extern "C" fn rl_open_1(
     plain(calls_open_1::open_1(set, private, cipher, marks, image))
 }
 
-#[unsafe(no_mangle)]
-pub extern "C" fn rl_open_2(
-    set: usize,
-    marks: &[u8],
-    gblock: &[u8],
-    message: &mut [u8],
-) -> PlainAnswer
+pub fn rl_open_2(set: usize, marks: &[u8], gblock: &[u8], message: &mut [u8]) -> PlainAnswer
     ensures { Exported (λ answer. OpenTwo set marks.now gblock.now message.old answer message.new) result.number result.place }
 {
     plain(calls_open_2::open_2(set, marks, gblock, message))
 }
 
-#[unsafe(no_mangle)]
-pub extern "C" fn rl_open_3(set: usize, image: &[u8], hblock: &[u8], key: &mut [u8]) -> PlainAnswer
+pub fn rl_open_3(set: usize, image: &[u8], hblock: &[u8], key: &mut [u8]) -> PlainAnswer
     ensures { Exported (λ answer. OpenThree set image.now hblock.now key.old answer key.new) result.number result.place }
 {
     plain(calls_open_3::open_3(set, image, hblock, key))
 }
 
-#[unsafe(no_mangle)]
-pub extern "C" fn rl_f_half(set: usize, key: &[u8]) -> Part
+pub fn rl_f_half(set: usize, key: &[u8]) -> Part
     ensures { PartOf key.now key.entry.ref_ptr (FHalf set key.now key.entry.ref_ptr) result.start result.length }
 {
     let part = calls_halves::f_half::f_half(set, key);
@@ -142,8 +122,7 @@ pub extern "C" fn rl_f_half(set: usize, key: &[u8]) -> Part
 }
 
 // The halves are as long as each other, so this one begins at its own length.
-#[unsafe(no_mangle)]
-pub extern "C" fn rl_h_half(set: usize, key: &[u8]) -> Part
+pub fn rl_h_half(set: usize, key: &[u8]) -> Part
     ensures { PartOf key.now key.entry.ref_ptr (HHalf set key.now key.entry.ref_ptr) result.start result.length }
 {
     let part = calls_halves::h_half::h_half(set, key);
