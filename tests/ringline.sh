@@ -1,9 +1,10 @@
 #!/usr/bin/env bash
-# ringline, as `rt ci` has built it, on every input of tests/ringline and on inputs of some 32,768 bytes, which are made here: what it prints
-# is the expected output to the byte.
+# ringline on every input of tests/ringline and on inputs of some 32,768 bytes, which are made here: what it prints is the expected output to
+# the byte.
 set -u
 cd "$(dirname "$0")/.." || exit 2
 . tests/counts
+tests/build ringline || exit 1
 
 printed() { tests/program ringline | cmp -s - "tests/ringline/$1.out"; }
 # expect NAME: standard input gives tests/ringline/NAME.out

@@ -24,7 +24,7 @@ add() {
 
 cargo="--offline --release --manifest-path tests/second/Cargo.toml --target-dir target/cargo"
 add cargo test -q $cargo
-tests/link serve && cargo build -q $cargo && rt check ringline >/dev/null 2>&1 || exit 1
+tests/link serve && cargo build -q $cargo && tests/build ringline || exit 1
 add target/cargo/release/compare requests "$requests" "$seed" tests/program serve
 add target/cargo/release/compare mistakes "$seed" tests/program serve
 add target/cargo/release/lines 1000 "$seed" tests/program ringline
