@@ -1,7 +1,6 @@
 -- `step_invert` gives `invert` what it asks for: a list in which no number is above 3456 is one of residues.
 -- Assumes nothing.
 use mathlib.Core.Path.{sym, ◌∙◌}
-use borrow.Author.Rules.{rules}
 use Rattle.residue.proofs.LargeLaws.{residues_of}
 use Rattle.bench_steps.proofs.step_invert.Goals as goal
 

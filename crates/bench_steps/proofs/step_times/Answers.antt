@@ -1,7 +1,6 @@
 -- `step_times` gives `times` what it asks for: two lists in which no number is above 3456 are lists of residues.
 -- Assumes nothing.
 use mathlib.Core.Path.{sym, ◌∙◌}
-use borrow.Author.Rules.{rules}
 use Rattle.residue.proofs.LargeLaws.{residues_of}
 use Rattle.bench_steps.proofs.step_times.Goals as goal
 

@@ -5,7 +5,6 @@ use mathlib.Core.Path.{◌≡◌, refl, sym, ap, ap₂, ◌∙◌}
 use Prim.Native.Nat.{ℕ, ◌+◌}
 use native.Mathlib.Omega.{arith}
 use lib.ListN.{length}
-use borrow.Author.Rules.{rules}
 use Rattle.lists.specs.First.{first_where, first_through}
 use Rattle.residue.specs.Field.{generator, powq}
 use Rattle.residue.specs.Residues.{Residues}
@@ -25,9 +24,6 @@ use Rattle.calls_make.proofs.make_in.Goals as goal
 quotient_as : {k n : ℕ} {f g F G : List ℕ} → k ≡ n → f ≡ F → g ≡ G → times k g (inverses k f) ≡ times n G (inverses n F)
 quotient_as a b c = cc
 
-pub pair_images-requires : goal.pair_images-requires
-pair_images-requires c = (c.requires.ready.0, omega (arith, c.requires.ready), c.requires.ready.1, c.requires.f_len.0, c.requires.f_len.1)
-
 pub through-at-requires : goal.through-at-requires
 unfolding g_image f_image
 through-at-requires c =
@@ -40,16 +36,6 @@ through-at-requires c =
     let f_is : c.pair_images.new.f ≡ F = c.pair_images.ensures.f_after in
     let long : length c.pair_images.new.f ≡ c.args.half + c.args.half = ap length f_is ∙ F_residues.long in
     omega (arith, c.requires.ready, long, c.first_zero-2.ensures, first_within is_zero c.pair_images.new.g, ap length g_is, G_residues.long)
-
-pub overflow_add-n : goal.overflow_add-n
-unfolding f_image
-overflow_add-n c =
-    let w : ℕ = powq generator c.args.step in
-    let F : List ℕ = f_image c.args.half w (small_f c.args.seed.now) in
-    let F_residues : Residues (c.args.half + c.args.half) F = image_of_residues c.args.half w (plus_one (tripled (small_f c.args.seed.now))) in
-    let f_is : c.pair_images.new.f ≡ F = c.pair_images.ensures.f_after in
-    let long : length c.pair_images.new.f ≡ c.args.half + c.args.half = ap length f_is ∙ F_residues.long in
-    omega (arith, c.requires.ready, long)
 
 pub returns-then-at-n : goal.returns-then-at-n
 unfolding leaves f_image g_image
@@ -65,7 +51,7 @@ returns-then-at-n c =
     let long : length c.pair_images.new.f ≡ c.args.half + c.args.half = ap length f_is ∙ F_residues.long in
     let g_is : c.pair_images.new.g ≡ G = c.pair_images.ensures.g_after in
     let place : c.through-at.result ≡ first_through is_zero (F ∷ G ∷ []) = counted is_zero F (G ∷ []) (sym (ap length f_is)) (c.first_zero.ensures ∙ ap (first_where is_zero) f_is)
-    (c.first_zero-2.ensures ∙ ap (first_where is_zero) g_is ∙ sym (through_one is_zero G)) c.through-at.ensures in
+        (c.first_zero-2.ensures ∙ ap (first_where is_zero) g_is ∙ sym (through_one is_zero G)) c.through-at.ensures in
     X.found (Holds c.args.public.now c.args.private.now) 4 is_zero (F ∷ G ∷ []) (reply 0 0) (ZeroSlot _) _ refl refl place
     (omega (arith, c.if-at-n.true, size, long)) (refl, refl)
 
@@ -96,7 +82,7 @@ returns c =
     let long : length c.pair_images.new.f ≡ c.args.half + c.args.half = ap length f_is ∙ F_residues.long in
     let g_is : c.pair_images.new.g ≡ G = c.pair_images.ensures.g_after in
     let place : c.through-at.result ≡ first_through is_zero (F ∷ G ∷ []) = counted is_zero F (G ∷ []) (sym (ap length f_is)) (c.first_zero.ensures ∙ ap (first_where is_zero) f_is)
-    (c.first_zero-2.ensures ∙ ap (first_where is_zero) g_is ∙ sym (through_one is_zero G)) c.through-at.ensures in
+        (c.first_zero-2.ensures ∙ ap (first_where is_zero) g_is ∙ sym (through_one is_zero G)) c.through-at.ensures in
     let h_is : let f = c.pair_images.new.f in times (length f) c.pair_images.new.g (inverses (length f) f) ≡ h_image c.args.half w (small_f c.args.seed.now) (small_g c.args.seed.now) = quotient_as long f_is g_is in
     let public_is : c.write_keys.new.public ≡ public_key c.args.half w c.args.seed.now = c.write_keys.ensures.public_after ∙ ap packed h_is in
     let private_is : c.write_keys.new.private ≡ private_key c.args.half w c.args.seed.now = c.write_keys.ensures.private_after ∙ ap₂ (λ a b. packed a ++ packed b) f_is (ap₂ inverses long h_is) in

@@ -6,7 +6,6 @@ use Prim.Native.Nat.{ℕ, ◌*◌, ◌/◌, ◌≤◌}
 use native.Mathlib.Omega.{arith}
 use lib.ListN.{length, length-drop}
 use lib.Seq.{length-take-le}
-use borrow.Author.Rules.{rules}
 use borrow.Author.Rules.{part_to_end}
 use Rattle.lists.specs.First.{first_through}
 use Rattle.residue.specs.Large.{too_large, first_large}
@@ -22,17 +21,6 @@ use Rattle.calls_open_1.proofs.unpack_all.Goals as goal
 within : (ls : List (List ℕ)) → first_through too_large ls ≤ length (flatten ls)
 unfolding first_through
 within ls = first_within too_large (flatten ls)
-
-pub slice_bounds-unpack-end : goal.slice_bounds-unpack-end
-slice_bounds-unpack-end c = sym (length-take-le _ _ (omega arith))
-
-pub unpack-first-requires : goal.unpack-first-requires
-unfolding first_half
-unpack-first-requires c =
-    let n : ℕ = length c.args.f.now in
-    let private : List ℕ = c.args.private.now in
-    let bytes_F : length (first_half private) ≡ 3 * (n / 2) = length-take-le (length private / 2) private (omega arith) ∙ omega (arith, c.requires.private_len.0) in
-    record { list_len = c.requires.f_len.0; bytes_len = bytes_F }
 
 pub through-requires : goal.through-requires
 unfolding first_large
@@ -54,8 +42,8 @@ through-requires-2 c =
     let long_K : length K ≡ n = length_groups (second_half private) ∙ omega (arith, bytes_K, c.requires.f_len.0) in
     let long_C : length C ≡ n = length_groups c.args.cipher.now ∙ omega (arith, c.requires.private_len.1, c.requires.f_len.0) in
     let inverse_is : (c.unpack-second.new.list ≡ K) × (c.unpack-second.result ≡ first_large K) = let l = private in
-    let e = part_to_end l (length l / 2) in
-    (c.unpack-second.ensures.list_after ∙ ap groups e, c.unpack-second.ensures.value ∙ ap (λ b. first_large (groups b)) e) in
+        let e = part_to_end l (length l / 2) in
+        (c.unpack-second.ensures.list_after ∙ ap groups e, c.unpack-second.ensures.value ∙ ap (λ b. first_large (groups b)) e) in
     let third : c.unpack-third.result ≡ first_through too_large (C ∷ []) = c.unpack-third.ensures.value ∙ sym (through_one too_large C) in
     let second : c.through.result ≡ first_through too_large (K ∷ C ∷ []) = counted too_large K (C ∷ []) long_K inverse_is.1 third c.through.ensures in
     omega (arith, second, within (K ∷ C ∷ []), length_through K (C ∷ []), length_one C, long_K, long_C, c.requires.f_len)
@@ -72,8 +60,8 @@ returns c =
     let long_F : length F ≡ n = length_groups (first_half private) ∙ omega (arith, bytes_F, c.requires.f_len.0) in
     let f_is : (c.unpack-first.new.list ≡ F) × (c.unpack-first.result ≡ first_large F) = (c.unpack-first.ensures.list_after, c.unpack-first.ensures.value) in
     let inverse_is : (c.unpack-second.new.list ≡ K) × (c.unpack-second.result ≡ first_large K) = let l = private in
-    let e = part_to_end l (length l / 2) in
-    (c.unpack-second.ensures.list_after ∙ ap groups e, c.unpack-second.ensures.value ∙ ap (λ b. first_large (groups b)) e) in
+        let e = part_to_end l (length l / 2) in
+        (c.unpack-second.ensures.list_after ∙ ap groups e, c.unpack-second.ensures.value ∙ ap (λ b. first_large (groups b)) e) in
     let bytes_K : length (second_half private) ≡ 3 * (n / 2) = length-drop (length private / 2) private ∙ omega (arith, c.requires.private_len.0) in
     let long_K : length K ≡ n = length_groups (second_half private) ∙ omega (arith, bytes_K, c.requires.f_len.0) in
     let third : c.unpack-third.result ≡ first_through too_large (C ∷ []) = c.unpack-third.ensures.value ∙ sym (through_one too_large C) in

@@ -5,8 +5,6 @@ use mathlib.Core.Path.{◌≡◌, refl, sym, ◌∙◌}
 use Prim.Native.Nat.{◌+◌, ◌≤◌}
 use native.Mathlib.Omega.{arith}
 use lib.ListN.{length}
-use borrow.Author.Rules.{rules}
-use borrow.Author.Tests.{not-true, not-false}
 use Rattle.answers.specs.declared.Parameters.{Parameters}
 use Rattle.answers.specs.declared.SetChoice.TheVariants.{Known}
 use Rattle.answers.specs.Replies.{leaves}
@@ -42,14 +40,6 @@ slice_bounds-open_2_in-end c =
     let set : IsSet c.args.set chosen = known_set _ _ known in
     let n_room : chosen.n ≤ 1152 = set.small in
     sym (part_long _ 2304 _ c.bits-bits.ensures (omega (arith, n_room)))
-
-pub overflow_add-halves : goal.overflow_add-halves
-overflow_add-halves c =
-    let chosen : Parameters = c.in-Known.s in
-    let known : set_of c.args.set ≡ Known chosen = sym c.set_of.ensures ∙ c.in-Known.is in
-    let set : IsSet c.args.set chosen = known_set _ _ known in
-    let n_room : chosen.n ≤ 1152 = set.small in
-    omega (arith, n_room)
 
 pub slice_bounds-halves-end : goal.slice_bounds-halves-end
 slice_bounds-halves-end c =

@@ -5,7 +5,6 @@ use mathlib.Core.Path.{◌≡◌, refl, sym, ◌∙◌}
 use Prim.Native.Nat.{ℕ, ◌≤◌}
 use native.Mathlib.Omega.{arith}
 use lib.ListN.{length}
-use borrow.Author.Rules.{rules}
 use Rattle.lists.specs.First.{first_through}
 use Rattle.marks.specs.Marks.{no_mark}
 use Rattle.answers.specs.declared.Answer.TheVariants.{Done, BadMark}

@@ -4,10 +4,8 @@ use mathlib.Core.Path.{ap, ◌∙◌}
 use Prim.Native.Nat.{◌+◌}
 use native.Mathlib.Omega.{arith}
 use lib.ListN.{length}
-use borrow.Author.Rules.{rules}
 use Rattle.residue.specs.Field.{generator, powq}
 use Rattle.residue.specs.Residues.{Residues}
-use Rattle.packing.specs.Packing.{packed}
 use Rattle.stages.specs.Sealing.{small_r, r_image}
 use Rattle.stages.proofs.ImageLaws.{residues_as, image_of_residues}
 use Rattle.calls_r_image.proofs.r_image_in.Goals as goal
@@ -19,6 +17,3 @@ pack-requires c =
     let e = c.r_image.ensures in
     let n = ap length e ∙ R_residues.long in
     record { list_len = omega (arith, n); bytes_len = omega (arith, n, c.requires.r_len.1); residues = residues_as R_residues e n }
-
-pub returns : goal.returns
-returns c = c.pack.ensures ∙ ap packed c.r_image.ensures

@@ -3,7 +3,6 @@
 use mathlib.Core.Path.{sym, ◌∙◌}
 use Prim.Native.Nat.{◌≤◌}
 use native.Mathlib.Omega.{arith}
-use borrow.Author.Rules.{rules}
 use Rattle.rooms.proofs.RoomLaws.{part_long}
 use Rattle.answers.proofs.SetLaws.{IsSet, known_set}
 use Rattle.calls_seal.proofs.seal_known.Goals as goal

@@ -1,6 +1,5 @@
 -- `encoding::decode_bit` meets its contract: by trying all marks and bits.
 -- Assumes nothing.
-use borrow.Author.Rules.{rules}
 use Rattle.encoding.proofs.XorLaws.{decode_bit_mark}
 use Rattle.encoding.proofs.decode_bit.Goals as goal
 

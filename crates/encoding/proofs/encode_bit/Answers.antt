@@ -1,17 +1,11 @@
 -- `encoding::encode_bit` meets its contract: the machine's exclusive or is that of the bits.
 -- Assumes nothing.
 use mathlib.Core.Path.{ap, ◌∙◌}
-use native.Mathlib.Omega.{arith}
 use lib.IntN.{pos, ◌-ℤ◌}
 use Rattle.residue.specs.Signed.{residue_of}
 use Rattle.encoding.specs.Encoding.{encode_bit}
-use Rattle.encoding.proofs.XorLaws.{bit_xor_xor, xor_lt}
+use Rattle.encoding.proofs.XorLaws.{bit_xor_xor}
 use Rattle.encoding.proofs.encode_bit.Goals as goal
-
-pub difference-requires : goal.difference-requires
-difference-requires c =
-    let a = c.args in
-    (omega (arith, c.requires, bit_xor_xor a.message a.first c.requires.0 c.requires.1, xor_lt a.message a.first), c.requires.2)
 
 pub returns : goal.returns
 unfolding encode_bit

@@ -1,17 +1,11 @@
 -- `encoding::encode_bits` meets its contract: the coefficients are filled from the left.
 -- Assumes nothing.
-use mathlib.Core.Path.{refl}
-use Prim.Native.Nat.{◌+◌, ◌-◌}
-use native.Mathlib.Omega.{arith}
-use lib.ListN.{length, get_or}
-use borrow.Author.Rules.{rules}
+use Prim.Native.Nat.{◌+◌}
+use lib.ListN.{get_or}
 use Rattle.residue.specs.Signed.{residue_of}
-use Rattle.lists.proofs.Fill.{Fill, fill_start, fill_turn, fill_end}
+use Rattle.lists.proofs.Fill.{Fill}
 use Rattle.encoding.specs.Encoding.{encode_bit}
 use Rattle.encoding.proofs.encode_bits.Given as goal
 
 abbrev pub invariant-loop-i : goal.invariant-loop-i
 invariant-loop-i l = Fill (λ k. residue_of (encode_bit (get_or l.bits k 0) (get_or l.halves k 0) (get_or l.halves (l.n + k) 0))) l.n l.coefficients l.i
-
-abbrev pub decreases-loop-i : goal.decreases-loop-i
-decreases-loop-i l = l.n - l.i

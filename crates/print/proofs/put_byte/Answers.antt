@@ -1,6 +1,5 @@
 -- `print::put_byte` meets its contract: a store writes a text of one byte.
 -- Assumes nothing.
-use borrow.Author.Rules.{rules}
 use Rattle.print.proofs.WriteLaws.{writes_byte}
 use Rattle.print.proofs.put_byte.Goals as goal
 

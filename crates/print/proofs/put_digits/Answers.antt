@@ -1,11 +1,9 @@
 -- `print::put_digits` meets its contract: each turn stores the last digit of the rest, in front of what is printed.
 -- Assumes nothing.
-use Prim.Native.Nat.{◌≤◌}
 use native.Mathlib.Omega.{arith}
 use borrow.Author.Rules.{rules}
-use Rattle.print.specs.Printing.{digits}
 use Rattle.print.proofs.DecimalLaws.{length_digits}
-use Rattle.print.proofs.DigitLoop.{Printed, printed_start, printed_turn, printed_end}
+use Rattle.print.proofs.DigitLoop.{printed_start, printed_turn, printed_end}
 use Rattle.print.proofs.put_digits.Goals as goal
 
 pub loop-left-init : goal.loop-left-init

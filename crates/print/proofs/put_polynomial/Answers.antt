@@ -1,15 +1,13 @@
 -- `print::put_polynomial` meets its contract: after i turns the terms of the first i places are printed.
 -- Assumes nothing.
-use mathlib.Core.Path.{◌≡◌, refl, sym, ap}
-use Prim.Native.Nat.{◌+◌, ◌-◌, ◌≤◌}
+use mathlib.Core.Path.{refl, sym, ap}
+use Prim.Native.Nat.{◌+◌}
 use native.Mathlib.Omega.{arith}
 use lib.Dec.{eqb}
 use lib.ListN.{length, get_or, take, length-append}
-use lib.Seq.{take_all}
 use borrow.Author.Rules.{rules}
 use Rattle.print.specs.Printing.{printed_terms, joined, printed_polynomial}
 use Rattle.print.specs.Places.{printed_place}
-use Rattle.print.specs.Write.{Writes}
 use Rattle.print.proofs.PrintingLaws.{printed_more, printed_within}
 use Rattle.print.proofs.WriteLaws.{then_writes, writes_as, writes_nothing}
 use Rattle.print.proofs.put_polynomial.Goals as goal
@@ -33,6 +31,3 @@ loop-i-preserved c = (
   writes_as (then_writes c.loop-i.invariant.2 c.put_place-next.ensures (omega (arith, c.requires)))
       (sym (printed_more c.args.list.now c.loop-i.i c.args.at c.loop-i.next c.loop-i-test.true c.loop-i.invariant.2.end)) refl,
 )
-
-pub returns : goal.returns
-returns c = writes_as c.loop-i.invariant.2 (ap printed_polynomial (take_all c.loop-i.i c.args.list.now (omega arith))) refl

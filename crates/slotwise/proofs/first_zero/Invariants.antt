@@ -1,13 +1,10 @@
 -- `slotwise::first_zero` meets its contract: while none of the first i slots is zero, the first such is i places into the rest.
 -- Assumes nothing.
-use mathlib.Core.Path.{◌≡◌, ap}
+use mathlib.Core.Path.{◌≡◌}
 use Prim.Native.Nat.{◌+◌, ◌-◌, ◌≤◌}
-use native.Mathlib.Omega.{arith}
-use lib.ListN.{length, drop, drop_of_length-le}
-use borrow.Author.Tests.{eq-eqb, ne_eqb}
+use lib.ListN.{length, drop}
 use Rattle.lists.specs.First.{first_where}
 use Rattle.algebra.specs.SlotBySlot.{is_zero}
-use Rattle.lists.proofs.FirstLaws.{first_more, first_here, first_none}
 use Rattle.slotwise.proofs.first_zero.Given as goal
 
 abbrev pub invariant-loop-i : goal.invariant-loop-i

@@ -1,16 +1,9 @@
 -- `slotwise::invert` meets its contract: the slots are filled from the left. No step is named here, so that another one in the code is refused for its value.
 -- Assumes nothing.
-use mathlib.Core.Path.{refl}
-use Prim.Native.Nat.{◌-◌}
 use lib.ListN.{get_or}
-use borrow.Author.Rules.{rules}
 use Rattle.residue.specs.Field.{invq}
-use Rattle.algebra.specs.SlotBySlot.{inverses}
-use Rattle.lists.proofs.Fill.{Fill, fill_start, fill_turn, fill_end}
+use Rattle.lists.proofs.Fill.{Fill}
 use Rattle.slotwise.proofs.invert.Given as goal
 
 abbrev pub invariant-loop-i : goal.invariant-loop-i
 invariant-loop-i l = Fill (λ k. invq (get_or l.a k 0)) l.n l.out l.i
-
-abbrev pub decreases-loop-i : goal.decreases-loop-i
-decreases-loop-i l = l.n - l.i

@@ -1,17 +1,9 @@
 -- `slotwise::minus` meets its contract: the slots are filled from the left. No step is named here, so that another one in the code is refused for its value.
 -- Assumes nothing.
-use mathlib.Core.Path.{refl}
-use Prim.Native.Nat.{◌-◌}
 use lib.ListN.{get_or}
-use borrow.Author.Rules.{rules}
 use Rattle.residue.specs.Field.{subq}
-use Rattle.algebra.specs.SlotBySlot.{minus}
-use Rattle.lists.proofs.Fill.{Fill, fill_start, fill_turn, fill_end}
-use Rattle.slotwise.proofs.SlotLaws.{slots_low}
+use Rattle.lists.proofs.Fill.{Fill}
 use Rattle.slotwise.proofs.minus.Given as goal
 
 abbrev pub invariant-loop-i : goal.invariant-loop-i
 invariant-loop-i l = Fill (λ k. subq (get_or l.a k 0) (get_or l.b k 0)) l.n l.out l.i
-
-abbrev pub decreases-loop-i : goal.decreases-loop-i
-decreases-loop-i l = l.n - l.i

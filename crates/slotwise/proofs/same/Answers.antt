@@ -1,12 +1,10 @@
 -- `slotwise::same` meets its contract: what is kept is whether the first i places agree.
 -- Assumes nothing.
-use mathlib.Core.Path.{◌≡◌, sym, ap, ◌∙◌}
+use mathlib.Core.Path.{sym, ap, ◌∙◌}
 use mathlib.Core.Bool.{◌&&◌}
-use Prim.Native.Nat.{◌-◌, ◌≤◌}
 use native.Mathlib.Omega.{arith}
 use lib.Dec.{eqb}
 use lib.ListN.{get_or}
-use Rattle.lists.specs.Every.{agree}
 use Rattle.lists.proofs.EqualLaws.{agree_none, agree_more, agree_equal}
 use Rattle.slotwise.proofs.same.Goals as goal
 

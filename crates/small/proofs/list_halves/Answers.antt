@@ -1,11 +1,10 @@
 -- `small::list_halves` meets its contract: the two halves of the room, filled one after the other.
 -- Assumes nothing.
-use mathlib.Core.Path.{◌≡◌, sym, ap, ◌∙◌}
+use mathlib.Core.Path.{◌≡◌, ap, ◌∙◌}
 use mathlib.Core.List.{List, ◌++◌}
 use Prim.Native.Nat.{ℕ, ◌-◌, ◌/◌}
 use native.Mathlib.Omega.{arith}
-use lib.ListN.{length, take, drop, length-take}
-use lib.Seq.{length-take-le}
+use lib.ListN.{length, take, drop}
 use borrow.Author.Rules.{part_to_end}
 use Rattle.bits.specs.Listing.{listed}
 use Rattle.lists.proofs.Parts.{both_parts}
@@ -21,15 +20,6 @@ first_half_lem block p e = e
 second_half_lem : (block q : List ℕ) → q ≡ listed (take (length block - length block / 2) (drop (length block / 2) block)) → q ≡ listed (second_half block)
 unfolding second_half
 second_half_lem block q e = e ∙ ap listed (part_to_end block (length block / 2))
-
-pub slice_bounds-list-end : goal.slice_bounds-list-end
-slice_bounds-list-end c = sym (length-take-le _ _ (omega arith))
-
-pub slice_bounds-list-end-3 : goal.slice_bounds-list-end-3
-slice_bounds-list-end-3 c = sym (length-take-le _ _ (omega arith))
-
-pub list-requires : goal.list-requires
-list-requires c = simp length-take (omega (arith, c.requires))
 
 pub returns : goal.returns
 returns c =

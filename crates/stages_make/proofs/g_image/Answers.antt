@@ -2,7 +2,6 @@
 -- Assumes nothing.
 use mathlib.Core.List.{map}
 use mathlib.Core.Path.{◌≡◌, refl, sym, ap, ◌∙◌}
-use borrow.Author.Rules.{rules}
 use Rattle.residue.specs.Field.{generator, mulq, powq}
 use Rattle.residue.specs.Signed.{residue_of}
 use Rattle.algebra.specs.Transform.{image}

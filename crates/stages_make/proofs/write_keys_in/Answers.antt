@@ -1,19 +1,14 @@
 -- `write_keys_in` meets its contract: h and 1/h slot by slot, each packed.
 -- Assumes nothing.
-use mathlib.Core.List.{List, ◌++◌}
+use mathlib.Core.List.{List}
 use mathlib.Core.Path.{◌≡◌, refl, sym, ap, ap₂, ◌∙◌}
 use Prim.Native.Nat.{ℕ, ◌*◌, ◌/◌}
 use native.Mathlib.Omega.{arith}
 use lib.ListN.{length}
-use borrow.Author.Rules.{rules}
 use Rattle.algebra.specs.SlotBySlot.{times, inverses}
-use Rattle.packing.specs.Packing.{packed}
 use Rattle.algebra.proofs.Lists.{times_residues, inverses_residues}
 use Rattle.stages.proofs.ImageLaws.{residues_as}
 use Rattle.stages_make.proofs.write_keys_in.Goals as goal
-
-pub invert-requires : goal.invert-requires
-invert-requires c = residues_as c.requires.f_len.1 refl c.requires.p_len.0
 
 pub times-requires : goal.times-requires
 times-requires c =
@@ -52,13 +47,3 @@ write_private-requires c =
     let second : c.times.new.out ≡ quotient = c.times.ensures ∙ ap₂ (λ m l. times m c.args.g.now l) c.requires.p_len.1 first in
     let third : c.invert-2.new.out ≡ inverses n quotient = c.invert-2.ensures ∙ ap₂ inverses (ap length first ∙ (inverses_residues n c.args.f.now).long) second in
     (c.requires.f_len.0, c.requires.f_len.1, residues_as (inverses_residues n quotient) third refl, c.requires.p_len.3)
-
-pub returns : goal.returns
-returns c =
-    let n : ℕ = length c.args.f.now in
-    let inverse : List ℕ = inverses n c.args.f.now in
-    let quotient : List ℕ = times n c.args.g.now inverse in
-    let first : c.invert.new.out ≡ inverse = c.invert.ensures ∙ ap (λ m. inverses m c.args.f.now) c.requires.p_len.0 in
-    let second : c.times.new.out ≡ quotient = c.times.ensures ∙ ap₂ (λ m l. times m c.args.g.now l) c.requires.p_len.1 first in
-    let third : c.invert-2.new.out ≡ inverses n quotient = c.invert-2.ensures ∙ ap₂ inverses (ap length first ∙ (inverses_residues n c.args.f.now).long) second in
-    record { public_after = c.pack.ensures ∙ ap packed second; private_after = c.write_private.ensures ∙ ap (λ l. packed c.args.f.now ++ packed l) third }

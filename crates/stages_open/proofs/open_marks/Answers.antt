@@ -3,7 +3,6 @@
 use mathlib.Core.List.{map}
 use mathlib.Core.Path.{◌≡◌, refl, ap, ◌∙◌}
 use Prim.Native.Nat.{◌+◌}
-use borrow.Author.Rules.{rules}
 use Rattle.residue.specs.Field.{generator, powq}
 use Rattle.residue.specs.Signed.{centred_by_three}
 use Rattle.algebra.specs.SlotBySlot.{times}
@@ -14,9 +13,6 @@ use Rattle.algebra.proofs.Lists.{times_residues, reverse_residues}
 use Rattle.stages.proofs.ImageLaws.{residues_as}
 use Rattle.stages_open.proofs.OpeningLaws.{map_map}
 use Rattle.stages_open.proofs.open_marks.Goals as goal
-
-pub times-requires : goal.times-requires
-times-requires c = (residues_as c.requires.ready.2 refl c.requires.p_len.0, residues_as c.requires.ready.1 refl c.requires.p_len.0)
 
 pub reverse-requires : goal.reverse-requires
 reverse-requires c =

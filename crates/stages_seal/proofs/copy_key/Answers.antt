@@ -1,17 +1,11 @@
 -- `copy_key` meets its contract: the key is filled from the left.
 -- Assumes nothing.
 use mathlib.Core.Path.{sym}
-use Prim.Native.Nat.{◌-◌}
 use native.Mathlib.Omega.{arith}
-use lib.ListN.{get_or}
 use lib.Seq.{get_or-take, length-take-le}
-use borrow.Author.Rules.{rules}
 use Rattle.stages.specs.Sealing.{key_bytes}
-use Rattle.lists.proofs.Fill.{Fill, fill_start, fill_turn, fill_list}
+use Rattle.lists.proofs.Fill.{fill_turn, fill_list}
 use Rattle.stages_seal.proofs.copy_key.Goals as goal
-
-pub loop-i-init : goal.loop-i-init
-loop-i-init c = fill_start _ c.requires.0
 
 pub loop-i-preserved : goal.loop-i-preserved
 unfolding key_bytes

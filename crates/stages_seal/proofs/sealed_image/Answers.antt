@@ -2,10 +2,7 @@
 -- Assumes nothing.
 use mathlib.Core.List.{List}
 use mathlib.Core.Path.{◌≡◌, refl, ap, ap₂, ◌∙◌}
-use Prim.Native.Nat.{ℕ, ◌+◌, ◌*◌, ◌-◌}
-use native.Mathlib.Omega.{arith}
-use lib.ListN.{length, take, drop, length-drop}
-use borrow.Author.Rules.{rules}
+use Prim.Native.Nat.{ℕ, ◌+◌}
 use borrow.Author.Rules.{part_to_end}
 use Rattle.residue.specs.Field.{generator, powq}
 use Rattle.algebra.specs.SlotBySlot.{plus, times}
@@ -17,14 +14,6 @@ use Rattle.algebra.proofs.Lists.{times_residues}
 use Rattle.stages.proofs.ImageLaws.{residues_as, image_of_residues}
 use Rattle.stages_seal.proofs.sealed_image.Goals as goal
 
-pub sampled_image-requires : goal.sampled_image-requires
-sampled_image-requires c =
-    let after : List ℕ = take (length c.args.hblock.now - 32) (drop 32 c.args.hblock.now) in
-    let long : length after ≡ 2 * length c.args.message.now = let b = c.args.hblock.now in
-    ap length (part_to_end b 32) ∙ length-drop 32 b ∙ omega (arith, c.requires.ready.4, c.requires.ready.5) in
-    let l = long in
-    (c.requires.ready.0, omega (arith, l, c.requires.ready.2), omega (arith, l, c.requires.ready.3), c.requires.p_len.1)
-
 pub times-requires : goal.times-requires
 unfolding small_r
 times-requires c =
@@ -34,14 +23,6 @@ times-requires c =
       residues_as c.requires.ready.1 refl c.requires.p_len.0,
       residues_as (image_of_residues c.args.half w (small_r c.args.hblock.now)) r_is c.requires.p_len.0,
     )
-
-pub encoded_image-requires : goal.encoded_image-requires
-encoded_image-requires c =
-    let after : List ℕ = take (length c.args.hblock.now - 32) (drop 32 c.args.hblock.now) in
-    let long : length after ≡ 2 * length c.args.message.now = let b = c.args.hblock.now in
-    ap length (part_to_end b 32) ∙ length-drop 32 b ∙ omega (arith, c.requires.ready.4, c.requires.ready.5) in
-    let l = long in
-    (c.requires.ready.0, c.requires.ready.2, c.requires.ready.3, omega (arith, l, c.requires.ready.5), omega (arith, c.requires.p_len))
 
 pub plus-requires : goal.plus-requires
 unfolding small_r

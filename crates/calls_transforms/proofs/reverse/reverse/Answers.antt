@@ -2,7 +2,6 @@
 -- Assumes nothing.
 use mathlib.Core.Path.{ap, ◌∙◌, subst}
 use lib.ListN.{length}
-use borrow.Author.Rules.{rules}
 use Rattle.algebra.specs.Transform.{reverse}
 use Rattle.calls_transforms.specs.declared.tests.Tested.TheVariants.{Ready}
 use Rattle.calls_transforms.specs.Reverse.{reverse_of, Reverse}

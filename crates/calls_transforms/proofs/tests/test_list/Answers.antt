@@ -7,7 +7,6 @@ use Prim.Native.Nat.{ℕ, ◌≤◌}
 use native.Mathlib.Omega.{arith}
 use lib.Dec.{eqb}
 use lib.ListN.{length}
-use borrow.Author.Tests.{not-true, not-false}
 use Rattle.lists.specs.First.{first_through}
 use Rattle.residue.specs.Large.{too_large, first_large}
 use Rattle.answers.specs.declared.Parameters.{Parameters}

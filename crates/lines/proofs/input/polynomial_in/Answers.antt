@@ -3,13 +3,9 @@
 use mathlib.Core.Bool.{false}
 use mathlib.Core.Path.{refl, sym, ap, ◌∙◌, subst}
 use lib.ListN.{length}
-use borrow.Author.Rules.{rules}
 use Rattle.text.specs.Polynomials.{polynomial, Reads}
 use Rattle.lines.proofs.InputLaws.{polynomial_line, polynomial_none}
 use Rattle.lines.proofs.input.polynomial_in.Goals as goal
-
-pub body-requires : goal.body-requires
-body-requires c = sym c.is_line.ensures ∙ c.if-is_line.true
 
 pub returns-then-is_line : goal.returns-then-is_line
 returns-then-is_line c =

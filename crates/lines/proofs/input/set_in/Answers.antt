@@ -5,9 +5,6 @@ use Rattle.text.specs.Numerals.{number}
 use Rattle.lines.proofs.InputLaws.{set_line, set_none}
 use Rattle.lines.proofs.input.set_in.Goals as goal
 
-pub body-requires : goal.body-requires
-body-requires c = sym c.is_line.ensures ∙ c.if-is_line.true
-
 pub returns-then-is_line : goal.returns-then-is_line
 returns-then-is_line c = c.number.ensures ∙ ap number c.body.ensures ∙ sym (set_line c.args.s.now (sym c.is_line.ensures ∙ c.if-is_line.true))
 

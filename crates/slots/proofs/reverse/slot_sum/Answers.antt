@@ -1,7 +1,7 @@
 -- `slots::reverse::slot_sum` meets its contract: after t turns the sum has 2t slots, and `even` and `odd` are the exponents of the next two powers.
 -- Assumes nothing.
-use mathlib.Core.Path.{◌≡◌, refl, sym, ap, ◌∙◌}
-use Prim.Native.Nat.{◌+◌, ◌*◌, ◌-◌, ◌%◌, ◌≤◌}
+use mathlib.Core.Path.{refl, sym, ap, ◌∙◌}
+use Prim.Native.Nat.{◌+◌, ◌*◌}
 use native.Mathlib.Omega.{arith}
 use Rattle.residue.specs.Field.{generator, powq}
 use Rattle.algebra.specs.Numbers.{residues, sum}
@@ -13,12 +13,6 @@ use Rattle.slots.proofs.Logs.{log_one, log_add, log_low, opposite_power}
 use Rattle.slots.proofs.ReadyLaws.{root_log, root_whole, step_small}
 use Rattle.slots.proofs.SlotLaws.{slot_term, slots_more}
 use Rattle.slots.proofs.reverse.slot_sum.Goals as goal
-
-pub overflow_mul-step : goal.overflow_mul-step
-overflow_mul-step c = omega (arith, root_log c.requires.0 c.args.j (omega arith))
-
-pub opposite-log-requires : goal.opposite-log-requires
-opposite-log-requires c = root_log c.requires.0 c.args.j (omega arith)
 
 pub loop-t-init : goal.loop-t-init
 loop-t-init c =

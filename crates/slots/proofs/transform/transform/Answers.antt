@@ -1,21 +1,14 @@
 -- `slots::transform::transform` meets its contract: the slots are filled from the left.
 -- Assumes nothing.
-use mathlib.Core.Path.{◌≡◌, ap, ap₂, ◌∙◌}
-use Prim.Native.Nat.{◌+◌, ◌-◌}
+use mathlib.Core.Path.{ap, ap₂, ◌∙◌}
 use native.Mathlib.Omega.{arith}
 use Rattle.residue.specs.Field.{generator, powq}
 use Rattle.algebra.specs.Transform.{exponent, value, image}
-use Rattle.lists.proofs.Fill.{Fill, fill_start, fill_turn, fill_end}
+use Rattle.lists.proofs.Fill.{fill_turn, fill_end}
 use Rattle.residue.proofs.PowerLaws.{powq_mul}
 use Rattle.residue.proofs.ResiduesLaws.{own_length}
 use Rattle.slots.proofs.ReadyLaws.{half_small, root_log, exponent_below}
 use Rattle.slots.proofs.transform.transform.Goals as goal
-
-pub overflow_add-k-end : goal.overflow_add-k-end
-overflow_add-k-end c = omega (arith, half_small c.requires.0)
-
-pub loop-k-init : goal.loop-k-init
-loop-k-init c = (omega arith, fill_start _ c.requires.2)
 
 pub slot_log-requires : goal.slot_log-requires
 slot_log-requires c = (omega (arith, half_small c.requires.0), root_log c.requires.0 _ (exponent_below c.args.half c.loop-k.k (omega arith)))

@@ -1,11 +1,10 @@
 -- `slots::transform::value` meets its contract: after i turns the sum is the value of the first i coefficients, and `at` the exponent of the next power.
 -- Assumes nothing.
-use mathlib.Core.Path.{◌≡◌, sym, ap, ◌∙◌}
-use Prim.Native.Nat.{◌*◌, ◌-◌, ◌%◌, ◌≤◌}
+use mathlib.Core.Path.{sym, ap, ◌∙◌}
 use native.Mathlib.Omega.{arith}
-use lib.ListN.{length, get_or}
+use lib.ListN.{get_or}
 use borrow.Author.Rules.{rules}
-use Rattle.residue.specs.Field.{generator, mulq, powq}
+use Rattle.residue.specs.Field.{mulq}
 use Rattle.algebra.specs.Numbers.{residues}
 use Rattle.algebra.specs.Transform.{value}
 use Rattle.algebra.proofs.Sum.{sum_zero}
@@ -23,11 +22,6 @@ plus_term-sum-requires c =
     let l = c.loop-i in
     (sum_low _ l.i l.invariant.2, c.requires.0.low _ (omega arith), log_low c.args.log l.i l.invariant.3, c.requires.2)
 
-pub advance-at-requires : goal.advance-at-requires
-advance-at-requires c =
-    let l = c.loop-i in
-    (log_low c.args.log l.i l.invariant.3, c.requires.1)
-
 pub loop-i-preserved : goal.loop-i-preserved
 unfolding value
 loop-i-preserved c =
@@ -38,9 +32,3 @@ loop-i-preserved c =
       c.plus_term-sum.ensures.0 ∙ sum_more _ l.i l.invariant.2 (ap (mulq (get_or c.args.a.now l.i 0)) (log_power log l.i l.invariant.3)),
       c.advance-at.ensures ∙ log_add log l.i 1 l.invariant.3 (log_one log c.requires.1) (omega arith),
     )
-
-pub returns : goal.returns
-returns c =
-    let s = c.args in
-    let l = c.loop-i in
-    l.invariant.2 ∙ ap (λ n. value n s.a.now (powq generator s.log)) (omega arith)

@@ -3,7 +3,6 @@
 use mathlib.Core.Path.{sym, ap, ◌∙◌, subst}
 use Prim.Native.Nat.{◌+◌}
 use native.Mathlib.Omega.{arith}
-use borrow.Author.Rules.{rules}
 use Rattle.residue.specs.Field.{generator, powq}
 use Rattle.residue.specs.Residues.{Residues}
 use Rattle.algebra.specs.Transform.{image}

@@ -2,7 +2,6 @@
 -- Assumes nothing.
 use mathlib.Core.Path.{sym, ap, ◌∙◌, subst}
 use Prim.Native.Nat.{◌+◌}
-use borrow.Author.Rules.{rules}
 use Rattle.residue.specs.Field.{generator, powq}
 use Rattle.residue.specs.Residues.{Residues}
 use Rattle.algebra.specs.Transform.{image}

@@ -1,12 +1,8 @@
 -- `text::read::all_digits` meets its contract: where the first i bytes are digits, the rest tells.
 -- Assumes nothing.
-use mathlib.Core.Path.{◌≡◌, sym, ◌∙◌}
-use Prim.Native.Nat.{◌-◌, ◌≤◌}
+use mathlib.Core.Path.{sym, ◌∙◌}
 use native.Mathlib.Omega.{arith}
-use lib.ListN.{drop}
 use borrow.Author.Rules.{rules}
-use borrow.Author.Tests.{not-true, not-false}
-use Rattle.text.specs.Numerals.{all_digits}
 use Rattle.text.proofs.NumeralLaws.{digits_more, digits_not, digits_none}
 use Rattle.text.proofs.read.all_digits.Goals as goal
 

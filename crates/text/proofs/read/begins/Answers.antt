@@ -1,11 +1,8 @@
 -- `text::read::begins` meets its contract: where the first i bytes agree, the rest of the name and the rest of the text tell.
 -- Assumes nothing.
-use mathlib.Core.Path.{◌≡◌, sym, ◌∙◌}
-use Prim.Native.Nat.{◌-◌, ◌≤◌}
+use mathlib.Core.Path.{sym, ◌∙◌}
 use native.Mathlib.Omega.{arith}
-use lib.ListN.{drop}
 use borrow.Author.Rules.{rules}
-use Rattle.text.specs.Lines.{begins}
 use Rattle.text.proofs.LineLaws.{begins_short, begins_more, begins_not, begins_end}
 use Rattle.text.proofs.read.begins.Goals as goal
 

@@ -1,10 +1,9 @@
 -- `text::read::find` meets its contract: while none of the first i bytes is the one, it is i places into the rest.
 -- Assumes nothing.
-use mathlib.Core.Path.{◌≡◌, ap}
-use Prim.Native.Nat.{◌+◌, ◌-◌, ◌≤◌}
+use mathlib.Core.Path.{ap}
 use native.Mathlib.Omega.{arith}
 use lib.Dec.{eqb}
-use lib.ListN.{length, drop, drop_of_length-le}
+use lib.ListN.{drop_of_length-le}
 use borrow.Author.Tests.{eq-eqb, ne_eqb}
 use Rattle.lists.specs.First.{first_where}
 use Rattle.lists.proofs.FirstLaws.{first_more, first_here, first_none}

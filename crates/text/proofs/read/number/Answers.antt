@@ -5,9 +5,6 @@ use Rattle.text.specs.declared.Number.TheVariants.{Is}
 use Rattle.text.proofs.NumeralLaws.{number_is, number_not}
 use Rattle.text.proofs.read.number.Goals as goal
 
-pub value-requires : goal.value-requires
-value-requires c = sym c.is_number.ensures ∙ c.if-is_number.true
-
 pub returns-then-is_number : goal.returns-then-is_number
 returns-then-is_number c = ap Is c.value.ensures ∙ sym (number_is _ (sym c.is_number.ensures ∙ c.if-is_number.true))
 

@@ -2,7 +2,6 @@
 -- Assumes nothing.
 use mathlib.Core.Path.{sym, ap, ◌∙◌, subst}
 use mathlib.Core.Option.{some}
-use borrow.Author.Rules.{rules}
 use Rattle.text.specs.Polynomials.{Reads}
 use Rattle.text.proofs.PolynomialLaws.{polynomial_zero, polynomial_terms, reads_some}
 use Rattle.text.proofs.read.polynomial.Goals as goal

@@ -1,7 +1,6 @@
 -- `text::read::term_of` meets its contract: by the four cases.
 -- Assumes nothing.
 use mathlib.Core.Path.{sym, ap, ◌∙◌}
-use borrow.Author.Rules.{rules}
 use Rattle.text.specs.Terms.{term_of}
 use Rattle.text.proofs.TermLaws.{term_of_not}
 use Rattle.text.proofs.read.term_of.Goals as goal

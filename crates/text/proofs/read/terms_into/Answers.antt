@@ -9,21 +9,16 @@ use native.Mathlib.Omega.{arith}
 use lib.Dec.{eqb}
 use lib.ListN.{length, take, drop, length-drop, length-set}
 use lib.Seq.{length-take-le}
-use borrow.Author.Rules.{rules}
-use borrow.Author.Tests.{not-true, not-false}
 use borrow.Author.Rules.{part_to_end}
 use Rattle.lists.specs.First.{first_where}
 use Rattle.lists.proofs.FirstLaws.{first_within}
 use Rattle.text.specs.declared.Term.TheVariants.{Of}
-use Rattle.text.specs.Lines.{comma, up_to, split}
-use Rattle.text.specs.Terms.{term, allowed, terms}
+use Rattle.text.specs.Lines.{comma, up_to}
+use Rattle.text.specs.Terms.{term, allowed}
 use Rattle.text.proofs.LineLaws.{up_to_is, past_drop}
 use Rattle.text.proofs.TermLaws.{allowed_is, text_not, text_refused, text_last, text_more}
 use Rattle.text.proofs.PolynomialLaws.{reads_none, reads_some}
 use Rattle.text.proofs.read.terms_into.Goals as goal
-
-pub loop-index-init : goal.loop-index-init
-loop-index-init c = (search rules, refl, refl)
 
 pub slice_bounds-term-end : goal.slice_bounds-term-end
 slice_bounds-term-end c =

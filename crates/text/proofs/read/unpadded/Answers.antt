@@ -1,7 +1,6 @@
 -- `text::read::unpadded` meets its contract: one byte has no leading zero, and of more the first tells.
 -- Assumes nothing.
 use mathlib.Core.Path.{sym}
-use borrow.Author.Rules.{rules}
 use Rattle.text.proofs.NumeralLaws.{unpadded_short, unpadded_long}
 use Rattle.text.proofs.read.unpadded.Goals as goal
 

@@ -1,16 +1,11 @@
 -- `text::read::value` meets its contract: the first i digits are summed up, and the rest goes on from their sum.
 -- Assumes nothing.
-use mathlib.Core.Path.{◌≡◌, refl, sym, ◌∙◌}
-use Prim.Native.Nat.{◌-◌, ◌^◌, ◌≤◌, ◌<◌}
+use mathlib.Core.Path.{refl, sym, ◌∙◌}
+use Prim.Native.Nat.{◌<◌}
 use native.Mathlib.Omega.{arith}
-use lib.ListN.{drop}
 use borrow.Author.Rules.{rules}
-use Rattle.text.specs.Numerals.{spelled}
 use Rattle.text.proofs.NumeralLaws.{digit_at, spelled_more, spelled_none, is_number_lem, power_more, power_few}
 use Rattle.text.proofs.read.value.Goals as goal
-
-pub loop-i-init : goal.loop-i-init
-loop-i-init c = (search rules, refl, omega arith)
 
 pub overflow_mul-sum : goal.overflow_mul-sum
 overflow_mul-sum c =
