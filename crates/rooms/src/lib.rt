@@ -1,5 +1,6 @@
 // Working room for a call, long enough for the larger set. It holds zeros at first.
 #![tactic(auto)]
+
 ghost use Rattle.std.specs.Prelude.{◌≡◌, length};
 
 // For n numbers.

@@ -22,8 +22,8 @@ loop-at-preserved c =
     let size : length (take (at + B - at) (drop at c.loop-at.bits)) ≡ B = mid_len at (at + B) c.loop-at.bits fits ∙ omega arith in
     let eighth : (at + B) / 8 - at / 8 ≡ B / 8 = omega arith in
     let p = c.list_block.ensures
-        ∙ ap (λ m. listed_block m (take ((at + B) / 8 - at / 8) (drop (at / 8) bytes))) size
-        ∙ ap (λ k. listed_block B (take k (drop (at / 8) bytes))) eighth in
+    ∙ ap (λ m. listed_block m (take ((at + B) / 8 - at / 8) (drop (at / 8) bytes))) size
+    ∙ ap (λ k. listed_block B (take k (drop (at / 8) bytes))) eighth in
     progress_turn c.loop-at.invariant B _ (at + B) _ f.0 f.2 f.3 (omega arith) (omega arith) fits p (ap length p ∙ length_listed_block B _ ∙ omega arith)
 
 pub returns : goal.returns

@@ -21,8 +21,8 @@ loop-at-preserved c =
     let size : length (take (at + B - at) (drop at bits)) ≡ B = mid_len at (at + B) bits (omega arith) ∙ omega arith in
     let same : at + B - at ≡ B = omega arith in
     let p = c.unlist_block.ensures
-        ∙ ap (λ m. unlisted_block m (take (at + B - at) (drop at bits))) size
-        ∙ ap (λ k. unlisted_block B (take k (drop at bits))) same in
+    ∙ ap (λ m. unlisted_block m (take (at + B - at) (drop at bits))) size
+    ∙ ap (λ k. unlisted_block B (take k (drop at bits))) same in
     progress_turn c.loop-at.invariant B _ ((at + B) / 8) _ f.0 f.2 f.3 refl (omega arith) fits p (ap length p ∙ length_unlisted_block B _ ∙ omega arith)
 
 pub returns : goal.returns

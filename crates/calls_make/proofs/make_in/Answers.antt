@@ -51,7 +51,7 @@ returns-then-at-n c =
     let long : length c.pair_images.new.f ≡ c.args.half + c.args.half = ap length f_is ∙ F_residues.long in
     let g_is : c.pair_images.new.g ≡ G = c.pair_images.ensures.g_after in
     let place : c.through-at.result ≡ first_through is_zero (F ∷ G ∷ []) = counted is_zero F (G ∷ []) (sym (ap length f_is)) (c.first_zero.ensures ∙ ap (first_where is_zero) f_is)
-        (c.first_zero-2.ensures ∙ ap (first_where is_zero) g_is ∙ sym (through_one is_zero G)) c.through-at.ensures in
+    (c.first_zero-2.ensures ∙ ap (first_where is_zero) g_is ∙ sym (through_one is_zero G)) c.through-at.ensures in
     X.found (Holds c.args.public.now c.args.private.now) 4 is_zero (F ∷ G ∷ []) (reply 0 0) (ZeroSlot _) _ refl refl place
     (omega (arith, c.if-at-n.true, size, long)) (refl, refl)
 
@@ -82,7 +82,7 @@ returns c =
     let long : length c.pair_images.new.f ≡ c.args.half + c.args.half = ap length f_is ∙ F_residues.long in
     let g_is : c.pair_images.new.g ≡ G = c.pair_images.ensures.g_after in
     let place : c.through-at.result ≡ first_through is_zero (F ∷ G ∷ []) = counted is_zero F (G ∷ []) (sym (ap length f_is)) (c.first_zero.ensures ∙ ap (first_where is_zero) f_is)
-        (c.first_zero-2.ensures ∙ ap (first_where is_zero) g_is ∙ sym (through_one is_zero G)) c.through-at.ensures in
+    (c.first_zero-2.ensures ∙ ap (first_where is_zero) g_is ∙ sym (through_one is_zero G)) c.through-at.ensures in
     let h_is : let f = c.pair_images.new.f in times (length f) c.pair_images.new.g (inverses (length f) f) ≡ h_image c.args.half w (small_f c.args.seed.now) (small_g c.args.seed.now) = quotient_as long f_is g_is in
     let public_is : c.write_keys.new.public ≡ public_key c.args.half w c.args.seed.now = c.write_keys.ensures.public_after ∙ ap packed h_is in
     let private_is : c.write_keys.new.private ≡ private_key c.args.half w c.args.seed.now = c.write_keys.ensures.private_after ∙ ap₂ (λ a b. packed a ++ packed b) f_is (ap₂ inverses long h_is) in

@@ -63,11 +63,11 @@ open-requires c =
     let room : length c.unpack_all-at.new.f ≡ n = ap length f_is ∙ long_first c.args.half private c.requires.ready.2 ∙ omega arith in
     let clear : length (flatten inputs) ≤ first_through too_large inputs = omega (arith, c.if-at-n.false, c.unpack_all-at.ensures.value, size, room) in
     let read : Residues n F × Residues n K × Residues n C = let l = halves_residues c.args.half private c.requires.ready.2 (C ∷ []) clear in
-        let two : n ≡ 2 * c.args.half = omega arith in (
-          residues_as l.0 refl two,
-          residues_as l.1 refl two,
-          residues_through C [] long_C (through_clear too_large (groups private) (C ∷ []) clear).1,
-        ) in
+    let two : n ≡ 2 * c.args.half = omega arith in (
+      residues_as l.0 refl two,
+      residues_as l.1 refl two,
+      residues_through C [] long_C (through_clear too_large (groups private) (C ∷ []) clear).1,
+    ) in
     let r = read in
     let q = c.requires.f_len in record { ready = (c.requires.ready.0, residues_as r.0 f_is refl, residues_as r.1 inverse_is refl, residues_as r.2 c_is refl); marks_len = (c.requires.marks_len.0, q.3) }
 

@@ -42,8 +42,8 @@ through-requires-2 c =
     let long_K : length K ≡ n = length_groups (second_half private) ∙ omega (arith, bytes_K, c.requires.f_len.0) in
     let long_C : length C ≡ n = length_groups c.args.cipher.now ∙ omega (arith, c.requires.private_len.1, c.requires.f_len.0) in
     let inverse_is : (c.unpack-second.new.list ≡ K) × (c.unpack-second.result ≡ first_large K) = let l = private in
-        let e = part_to_end l (length l / 2) in
-        (c.unpack-second.ensures.list_after ∙ ap groups e, c.unpack-second.ensures.value ∙ ap (λ b. first_large (groups b)) e) in
+    let e = part_to_end l (length l / 2) in
+    (c.unpack-second.ensures.list_after ∙ ap groups e, c.unpack-second.ensures.value ∙ ap (λ b. first_large (groups b)) e) in
     let third : c.unpack-third.result ≡ first_through too_large (C ∷ []) = c.unpack-third.ensures.value ∙ sym (through_one too_large C) in
     let second : c.through.result ≡ first_through too_large (K ∷ C ∷ []) = counted too_large K (C ∷ []) long_K inverse_is.1 third c.through.ensures in
     omega (arith, second, within (K ∷ C ∷ []), length_through K (C ∷ []), length_one C, long_K, long_C, c.requires.f_len)
@@ -60,8 +60,8 @@ returns c =
     let long_F : length F ≡ n = length_groups (first_half private) ∙ omega (arith, bytes_F, c.requires.f_len.0) in
     let f_is : (c.unpack-first.new.list ≡ F) × (c.unpack-first.result ≡ first_large F) = (c.unpack-first.ensures.list_after, c.unpack-first.ensures.value) in
     let inverse_is : (c.unpack-second.new.list ≡ K) × (c.unpack-second.result ≡ first_large K) = let l = private in
-        let e = part_to_end l (length l / 2) in
-        (c.unpack-second.ensures.list_after ∙ ap groups e, c.unpack-second.ensures.value ∙ ap (λ b. first_large (groups b)) e) in
+    let e = part_to_end l (length l / 2) in
+    (c.unpack-second.ensures.list_after ∙ ap groups e, c.unpack-second.ensures.value ∙ ap (λ b. first_large (groups b)) e) in
     let bytes_K : length (second_half private) ≡ 3 * (n / 2) = length-drop (length private / 2) private ∙ omega (arith, c.requires.private_len.0) in
     let long_K : length K ≡ n = length_groups (second_half private) ∙ omega (arith, bytes_K, c.requires.f_len.0) in
     let third : c.unpack-third.result ≡ first_through too_large (C ∷ []) = c.unpack-third.ensures.value ∙ sym (through_one too_large C) in

@@ -61,7 +61,7 @@ returns-then-at-n c =
     let lengths : let n = chosen.n in (length c.args.a.now ≡ n) × (length c.args.b.now ≡ n) × (length c.args.out.now ≡ n) = three_lengths _ _ _ _ _ _ fit in
     let long : length (flatten inputs) ≡ chosen.n + chosen.n = omega (arith, lengths, length_through c.args.a.now (c.args.b.now ∷ []), length_one c.args.b.now) in
     let place : c.through-at.result ≡ first_through too_large inputs = counted too_large c.args.a.now (c.args.b.now ∷ []) lengths.0 c.first_large.ensures
-        (c.first_large-in-Known.ensures ∙ sym (through_one too_large c.args.b.now)) c.through-at.ensures in
+    (c.first_large-in-Known.ensures ∙ sym (through_one too_large c.args.b.now)) c.through-at.ensures in
     right_lengths (Holds c.args.out.now) c.args.set fits rest chosen known fit _
     (too_large_lem (Holds c.args.out.now) inputs (reply 0 0) _ place (omega (arith, c.if-at-n.true, long)) refl)
 
@@ -77,14 +77,14 @@ product-requires c =
     let inputs : List (List ℕ) = c.args.a.now ∷ c.args.b.now ∷ [] in
     let long : length (flatten inputs) ≡ chosen.n + chosen.n = omega (arith, lengths, length_through c.args.a.now (c.args.b.now ∷ []), length_one c.args.b.now) in
     let place : c.through-at.result ≡ first_through too_large inputs = counted too_large c.args.a.now (c.args.b.now ∷ []) lengths.0 c.first_large.ensures
-        (c.first_large-in-Known.ensures ∙ sym (through_one too_large c.args.b.now)) c.through-at.ensures in
+    (c.first_large-in-Known.ensures ∙ sym (through_one too_large c.args.b.now)) c.through-at.ensures in
     let clear : length (flatten inputs) ≤ first_through too_large inputs = omega (arith, long, place, c.if-at-n.false) in
     let l = lengths in
     let n = chosen.half + chosen.half in
     let whole = set.whole in
     let first : Residues n c.args.a.now = residues_through c.args.a.now (c.args.b.now ∷ []) (l.0 ∙ whole) clear in
     let second : Residues n c.args.b.now =
-        residues_through c.args.b.now [] (l.1 ∙ whole) (through_clear too_large c.args.a.now (c.args.b.now ∷ []) clear).1 in
+    residues_through c.args.b.now [] (l.1 ∙ whole) (through_clear too_large c.args.a.now (c.args.b.now ∷ []) clear).1 in
     (search (first, second), search (first, second), l.2 ∙ whole)
 
 pub returns-in-Unknown : goal.returns-in-Unknown
@@ -109,7 +109,7 @@ returns-else-at-n c =
     let lengths : let n = chosen.n in (length c.args.a.now ≡ n) × (length c.args.b.now ≡ n) × (length c.args.out.now ≡ n) = three_lengths _ _ _ _ _ _ fit in
     let long : length (flatten inputs) ≡ chosen.n + chosen.n = omega (arith, lengths, length_through c.args.a.now (c.args.b.now ∷ []), length_one c.args.b.now) in
     let place : c.through-at.result ≡ first_through too_large inputs = counted too_large c.args.a.now (c.args.b.now ∷ []) lengths.0 c.first_large.ensures
-        (c.first_large-in-Known.ensures ∙ sym (through_one too_large c.args.b.now)) c.through-at.ensures in
+    (c.first_large-in-Known.ensures ∙ sym (through_one too_large c.args.b.now)) c.through-at.ensures in
     let clear : length (flatten inputs) ≤ first_through too_large inputs = omega (arith, long, place, c.if-at-n.false) in
     let l = c.product.new.out in
     right_lengths (Holds l) c.args.set fits rest chosen known fit _

@@ -28,7 +28,7 @@ unfolding leaves first_large
 returns-then-at-h c =
     let inputs : List (List ℕ) = groups c.args.public.now ∷ [] in
     let Holds : List ℕ → List ℕ → Reply → Type 0 = λ cipher key. S.Holds c.args.public.now c.args.message.now c.args.hblock.now c.args.gblock.now c.args.cipher.now c.args.key.now cipher key
-        c.args.half (powq generator c.args.step) in
+    c.args.half (powq generator c.args.step) in
     let place : c.unpack-at.result ≡ first_through too_large inputs = c.unpack-at.ensures.value ∙ sym (through_one too_large (groups c.args.public.now)) in
     X.too_large_lem (Holds c.args.cipher.now c.args.key.now) inputs (reply 0 0) _ place
     (omega (arith, c.if-at-h.true, length_one (groups c.args.public.now), ap length c.unpack-at.ensures.list_after)) (refl, refl)
@@ -49,11 +49,11 @@ pub pack-requires : goal.pack-requires
 unfolding sealed_image
 pack-requires c =
     let sealed : List ℕ = sealed_image c.args.half (powq generator c.args.step) (groups c.args.public.now) (small_r c.args.hblock.now)
-        (encoded c.args.message.now c.args.gblock.now) in
+    (encoded c.args.message.now c.args.gblock.now) in
     let sealed_residues : Residues (c.args.half + c.args.half) sealed = plus_residues (c.args.half + c.args.half) _ _ in
     let cipher_is : c.sealed_image.new.out ≡ sealed = c.sealed_image.ensures
-        ∙ ap (λ h. sealed_image c.args.half (powq generator c.args.step) h (small_r c.args.hblock.now) (encoded c.args.message.now c.args.gblock.now))
-        c.unpack-at.ensures.list_after in
+    ∙ ap (λ h. sealed_image c.args.half (powq generator c.args.step) h (small_r c.args.hblock.now) (encoded c.args.message.now c.args.gblock.now))
+    c.unpack-at.ensures.list_after in
     let e = cipher_is in
     let n = ap length e ∙ sealed_residues.long in
     record { list_len = omega (arith, n); bytes_len = omega (arith, n, c.requires.cipher_len.0); residues = residues_as sealed_residues e n }
@@ -63,14 +63,14 @@ unfolding leaves ciphertext first_large
 returns c =
     let inputs : List (List ℕ) = groups c.args.public.now ∷ [] in
     let Holds : List ℕ → List ℕ → Reply → Type 0 = λ cipher key. S.Holds c.args.public.now c.args.message.now c.args.hblock.now c.args.gblock.now c.args.cipher.now c.args.key.now cipher key
-        c.args.half (powq generator c.args.step) in
+    c.args.half (powq generator c.args.step) in
     let place : c.unpack-at.result ≡ first_through too_large inputs = c.unpack-at.ensures.value ∙ sym (through_one too_large (groups c.args.public.now)) in
     let clear : length (flatten inputs) ≤ first_through too_large inputs = omega (arith, c.if-at-h.false, place, length_one (groups c.args.public.now), ap length c.unpack-at.ensures.list_after) in
     let sealed : List ℕ = sealed_image c.args.half (powq generator c.args.step) (groups c.args.public.now) (small_r c.args.hblock.now)
-        (encoded c.args.message.now c.args.gblock.now) in
+    (encoded c.args.message.now c.args.gblock.now) in
     let cipher_is : c.sealed_image.new.out ≡ sealed = c.sealed_image.ensures
-        ∙ ap (λ h. sealed_image c.args.half (powq generator c.args.step) h (small_r c.args.hblock.now) (encoded c.args.message.now c.args.gblock.now))
-        c.unpack-at.ensures.list_after in
+    ∙ ap (λ h. sealed_image c.args.half (powq generator c.args.step) h (small_r c.args.hblock.now) (encoded c.args.message.now c.args.gblock.now))
+    c.unpack-at.ensures.list_after in
     let cipher = c.pack.new.bytes in
     let key = c.copy_key.new.key in
     X.in_range_lem (Holds cipher key) inputs (reply 0 0) clear Done

@@ -2,7 +2,6 @@
 -- Assumes nothing.
 use mathlib.Core.Path.{ap, ◌∙◌}
 use lib.ListN.{length}
-use borrow.Author.Rules.{rules}
 use Rattle.face.proofs.Parts.{no_further, first_part}
 use Rattle.face.proofs.rl_f_half.Goals as goal
 

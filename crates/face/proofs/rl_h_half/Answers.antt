@@ -2,7 +2,6 @@
 -- Assumes nothing.
 use mathlib.Core.Path.{ap, ◌∙◌}
 use lib.ListN.{length}
-use borrow.Author.Rules.{rules}
 use Rattle.calls_halves.specs.Halves.{further}
 use Rattle.face.proofs.Parts.{second_start, second_part}
 use Rattle.face.proofs.rl_h_half.Goals as goal

@@ -1,6 +1,5 @@
 -- `rl_open_1` keeps its promise: what it hands out is the number and the place of the answer with which `open_1` kept its own.
 -- Assumes nothing.
-use borrow.Author.Rules.{rules}
 use Rattle.face.proofs.rl_open_1.Goals as goal
 
 pub returns : goal.returns

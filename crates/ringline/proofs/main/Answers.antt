@@ -5,7 +5,6 @@ use Prim.Native.Nat.{◌≤◌}
 use native.Mathlib.Omega.{arith}
 use lib.ListN.{length}
 use lib.Seq.{length-take-le}
-use borrow.Author.Rules.{rules}
 use Rattle.line.specs.Line.{Line}
 use Rattle.print.proofs.WriteLaws.{writes_within}
 use Rattle.ringline.proofs.main.Goals as goal

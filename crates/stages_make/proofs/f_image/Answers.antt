@@ -26,7 +26,7 @@ add-requires c =
     let three : List ℤ = tripled (sampled c.args.block.now) in
     let long : length three ≡ c.args.half + c.args.half = length_tripled (sampled c.args.block.now) ∙ length_sampled c.args.block.now ∙ sym c.requires.ready.2 in
     let some : 0 < length three = let h = half_positive c.args.half _ (record { log = c.args.step; turns = c.requires.ready.0.turns; root = refl }) in
-        omega (arith, h, long) in
+    omega (arith, h, long) in
     let before : c.triple.new.out ≡ map residue_of three = c.triple.ensures ∙ ap (map (mulq 3)) c.sample.ensures ∙ map_tripled (sampled c.args.block.now) in
     (subst (λ l. get_or l 0 0 < q) (sym before) ((whole_residues three refl).low 0 some), omega arith)
 
@@ -35,10 +35,10 @@ transform-requires c =
     let three : List ℤ = tripled (sampled c.args.block.now) in
     let long : length three ≡ c.args.half + c.args.half = length_tripled (sampled c.args.block.now) ∙ length_sampled c.args.block.now ∙ sym c.requires.ready.2 in
     let some : 0 < length three = let h = half_positive c.args.half _ (record { log = c.args.step; turns = c.requires.ready.0.turns; root = refl }) in
-        omega (arith, h, long) in
+    omega (arith, h, long) in
     let before : c.triple.new.out ≡ map residue_of three = c.triple.ensures ∙ ap (map (mulq 3)) c.sample.ensures ∙ map_tripled (sampled c.args.block.now) in
     let after : set c.triple.new.out 0 c.add.result.0 ≡ map residue_of (plus_one three) = let e = before in
-        ap (λ l. set l 0 c.add.result.0) e ∙ plus_one_is three some (c.add.ensures.0 ∙ ap (λ l. addq (get_or l 0 0) 1) e) in (
+    ap (λ l. set l 0 c.add.result.0) e ∙ plus_one_is three some (c.add.ensures.0 ∙ ap (λ l. addq (get_or l 0 0) 1) e) in (
       c.requires.ready.0,
       residues_as (whole_residues (plus_one three) (length_plus_one three ∙ long)) after refl,
       c.requires.halves_len.3,
@@ -50,8 +50,8 @@ returns c =
     let three : List ℤ = tripled (sampled c.args.block.now) in
     let long : length three ≡ c.args.half + c.args.half = length_tripled (sampled c.args.block.now) ∙ length_sampled c.args.block.now ∙ sym c.requires.ready.2 in
     let some : 0 < length three = let h = half_positive c.args.half _ (record { log = c.args.step; turns = c.requires.ready.0.turns; root = refl }) in
-        omega (arith, h, long) in
+    omega (arith, h, long) in
     let before : c.triple.new.out ≡ map residue_of three = c.triple.ensures ∙ ap (map (mulq 3)) c.sample.ensures ∙ map_tripled (sampled c.args.block.now) in
     let after : set c.triple.new.out 0 c.add.result.0 ≡ map residue_of (plus_one three) = let e = before in
-        ap (λ l. set l 0 c.add.result.0) e ∙ plus_one_is three some (c.add.ensures.0 ∙ ap (λ l. addq (get_or l 0 0) 1) e) in
+    ap (λ l. set l 0 c.add.result.0) e ∙ plus_one_is three some (c.add.ensures.0 ∙ ap (λ l. addq (get_or l 0 0) 1) e) in
     c.transform.ensures ∙ ap (image c.args.half (powq generator c.args.step)) after

@@ -32,7 +32,7 @@ transform-requires c =
     let n : ℕ = c.args.half + c.args.half in
     let length_m : length m ≡ n = length_opened_m c.args.half w c.args.f.now c.args.c.now in
     let element : c.unmark.new.list ≡ map residue_of m = c.unmark.ensures ∙ ap (map (λ k. residue_of (of_mark k))) c.open_marks.ensures
-        ∙ opened_back c.args.half w c.args.f.now c.args.c.now in
+    ∙ opened_back c.args.half w c.args.f.now c.args.c.now in
     (c.requires.ready.0, residues_as (whole_residues m length_m) element refl, omega (arith, c.requires))
 
 pub minus-requires : goal.minus-requires
@@ -41,7 +41,7 @@ minus-requires c =
     let w : ℕ = powq generator c.args.step in
     let m : List ℤ = opened_m c.args.half w c.args.f.now c.args.c.now in
     let element : c.unmark.new.list ≡ map residue_of m = c.unmark.ensures ∙ ap (map (λ k. residue_of (of_mark k))) c.open_marks.ensures
-        ∙ opened_back c.args.half w c.args.f.now c.args.c.now in
+    ∙ opened_back c.args.half w c.args.f.now c.args.c.now in
     let image_m : c.transform.new.out ≡ image_of c.args.half w m = c.transform.ensures ∙ ap (image c.args.half w) element in
     let n : ℕ = c.args.half + c.args.half in
     let length_m : length m ≡ n = length_opened_m c.args.half w c.args.f.now c.args.c.now in
@@ -56,7 +56,7 @@ times-requires c =
     let w : ℕ = powq generator c.args.step in
     let m : List ℤ = opened_m c.args.half w c.args.f.now c.args.c.now in
     let element : c.unmark.new.list ≡ map residue_of m = c.unmark.ensures ∙ ap (map (λ k. residue_of (of_mark k))) c.open_marks.ensures
-        ∙ opened_back c.args.half w c.args.f.now c.args.c.now in
+    ∙ opened_back c.args.half w c.args.f.now c.args.c.now in
     let image_m : c.transform.new.out ≡ image_of c.args.half w m = c.transform.ensures ∙ ap (image c.args.half w) element in
     let length_m : length m ≡ n = length_opened_m c.args.half w c.args.f.now c.args.c.now in
     let room : length c.unmark.new.list ≡ n = ap length element ∙ (whole_residues m length_m).long in
@@ -72,7 +72,7 @@ returns c =
     let w : ℕ = powq generator c.args.step in
     let m : List ℤ = opened_m c.args.half w c.args.f.now c.args.c.now in
     let element : c.unmark.new.list ≡ map residue_of m = c.unmark.ensures ∙ ap (map (λ k. residue_of (of_mark k))) c.open_marks.ensures
-        ∙ opened_back c.args.half w c.args.f.now c.args.c.now in
+    ∙ opened_back c.args.half w c.args.f.now c.args.c.now in
     let image_m : c.transform.new.out ≡ image_of c.args.half w m = c.transform.ensures ∙ ap (image c.args.half w) element in
     let length_m : length m ≡ n = length_opened_m c.args.half w c.args.f.now c.args.c.now in
     let room : length c.unmark.new.list ≡ n = ap length element ∙ (whole_residues m length_m).long in
