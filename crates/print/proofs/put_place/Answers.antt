@@ -20,8 +20,8 @@ returns-then-first c = writes_as c.put_term.ensures (sym (place_first _ _ _ c.if
 
 pub put_byte-next-requires : goal.put_byte-next-requires
 put_byte-next-requires c =
-    let term = place_next c.args.first c.args.i c.args.v c.if-v-eq0.false c.if-first.false in
-    omega (arith, ap length term, c.requires)
+    let comma = place_next c.args.first c.args.i c.args.v c.if-v-eq0.false c.if-first.false in
+    omega (arith, ap length comma, c.requires)
 
 pub put_term-requires-2 : goal.put_term-requires-2
 put_term-requires-2 c =
