@@ -1,4 +1,4 @@
-/* Key agreement for light buoys: the calls of libface.a (rt staticlib face), for C and C++.
+/* Key agreement for light buoys: the calls of libface.a (tests/archive face), for C and C++.
  *
  * A buffer is a pointer and a length, counted in numbers (uint16_t) or in bytes (uint8_t), in the order of document 01's table: inputs
  * before outputs. `set` is 576 or 1152; n stands for it below.

@@ -1,4 +1,4 @@
-/* The archive behind a pipe, so that a program for any processor can call it: a request on standard input, a reply on standard output, until
+/* The archive behind a pipe, so that another program can call it: a request on standard input, a reply on standard output, until
  * the input ends. All numbers have 8 bytes, low byte first.
  *
  * request  call (the place of its name in `calls` below), set; then for each buffer, inputs before outputs: its length, 16 guard bytes, its

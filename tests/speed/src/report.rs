@@ -38,7 +38,7 @@ fn processor() -> String {
 
 fn archive() -> &'static str {
     if cfg!(target_arch = "x86_64") {
-        "the archives as `rt staticlib` makes them"
+        "the archives as `rt lib` makes them"
     } else {
         "the proved modules compiled for this processor (the archives are for x86-64)"
     }
