@@ -6,14 +6,16 @@ set -u
 cd "$(dirname "$0")/.." || exit 2
 . tests/counts
 
-# fits CRATE EDIT: no answer of the edited crate's proof files is to a goal, a step or a name that the edited code hasn't
+# fits CRATE EDIT: the check of the edited crate is refused, and no answer of its proof files is to a goal, a step or a name that the edited code
+# hasn't
 fits() {
-    local copy lost
+    local copy said lost
     copy=$(mktemp -d)
     tar -c --exclude=out crates crates.txt | tar -x -C "$copy"
-    tests/apply "crates/$1/must-fail/$2.edit" "$copy/crates/$1"
-    lost=$(cd "$copy/crates/$1" && rt check 2>&1 | grep -E 'proofs/.*(has no field|is not in scope|has no `)' | head -n 1)
+    said=$(tests/apply "crates/$1/must-fail/$2.edit" "$copy/crates/$1" && cd "$copy/crates/$1" && rt check 2>&1)
     rm -rf "$copy"
+    grep -q '^logic=not-proved' <<<"$said" || { echo "no check of it: ${said:0:400}" && return 1; }
+    lost=$(grep -E 'proofs/.*(has no field|is not in scope|has no `)' <<<"$said" | head -n 1)
     [ -z "$lost" ] || { echo "its text no longer fits: ${lost:0:400}" && return 1; }
 }
 

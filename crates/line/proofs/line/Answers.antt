@@ -26,7 +26,7 @@ put_answer-requires c =
 
 pub returns-then-input-gt32768 : goal.returns-then-input-gt32768
 unfolding Line
-returns-then-input-gt32768 c = writes_as c.put_answer.ensures (sym (printed_long c.args.input.now c.if-input-gt32768.true)) refl
+returns-then-input-gt32768 c = writes_as c.put_answer.ensures (sym (printed_long c.args.input.now (omega (arith, c.if-input-gt32768.true)))) refl
 
 pub put_answer-requires-in-NotNumber : goal.put_answer-requires-in-NotNumber
 put_answer-requires-in-NotNumber c =
