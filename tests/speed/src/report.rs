@@ -2,10 +2,11 @@
 use crate::measure::Row;
 use std::process::Command;
 
+const ARCHIVES: &str = "the archives as `rt lib` makes them";
 const MARKS: [&str; 2] = ["<!-- measured -->\n", "<!-- end -->\n"];
 
 pub fn table(date: &str, rows: &[Row]) -> String {
-    let mut text = format!("{date}, {}, {}.\n\n", processor(), archive());
+    let mut text = format!("{date}, {}, {ARCHIVES}.\n\n", processor());
     text += "| call or step | n | proved, µs | ordinary Rust, µs | ratio |\n|---|---|---|---|---|\n";
     for row in rows {
         let (proved, ordinary) = (row.proved, row.ordinary);
@@ -34,12 +35,4 @@ fn processor() -> String {
         Some(line.split_once(':')?.1.trim().to_string())
     };
     named().unwrap_or_else(|| "a processor without a name".into())
-}
-
-fn archive() -> &'static str {
-    if cfg!(target_arch = "x86_64") {
-        "the archives as `rt lib` makes them"
-    } else {
-        "the proved modules compiled for this processor (the archives are for x86-64)"
-    }
 }
