@@ -6,9 +6,9 @@ use Prim.Native.Nat.{ℕ, ◌+◌, ◌*◌, ◌%◌, ◌≤◌}
 use native.Mathlib.Omega.{arith}
 use lib.Dec.{eqb}
 use borrow.Author.Tests.{eqb-true}
+use Rattle.std.proofs.Common.{Some, None}
 use Rattle.residue.specs.Field.{generator, powq}
 use Rattle.answers.specs.declared.Parameters.{Parameters}
-use Rattle.answers.specs.declared.SetChoice.TheVariants.{Known, Unknown}
 use Rattle.answers.specs.Sets.{parameters_of, set_of}
 
 pub record IsSet (set : ℕ) (s : Parameters) : Type 0 where
@@ -71,12 +71,12 @@ is_1152 =
 
 -- ---- so every set that is known is one
 
-pub known_set : (set : ℕ) (s : Parameters) → set_of set ≡ Known s → IsSet set s
+pub known_set : (set : ℕ) (s : Parameters) → set_of set ≡ Some s → IsSet set s
 unfolding set_of
 known_set set s = by (eqb set 576) (eqb set 1152) refl refl
   where
     by : (a b : Bool) → eqb set 576 ≡ a → eqb set 1152 ≡ b
-        → cond a (Known (parameters_of 576 49 2)) (cond b (Known (parameters_of 1152 7 1)) Unknown) ≡ Known s → IsSet set s
+        → cond a (Some (parameters_of 576 49 2)) (cond b (Some (parameters_of 1152 7 1)) None) ≡ Some s → IsSet set s
     by true b ea eb e =
         let p : parameters_of 576 49 2 ≡ s = cc in
         rw (← p, eqb-true set 576 ea) is_576

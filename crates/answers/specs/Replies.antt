@@ -1,8 +1,7 @@
 -- What the definition of a call answers, what the call leaves in a buffer, and what it owes.
 -- Assumes nothing: these are definitions.
 use Rattle.std.specs.Prelude.{cond, List, ◌≡◌, ℕ, eqb}
-use Rattle.answers.specs.declared.Answer.{Answer}
-use Rattle.answers.specs.Answers.{number_of, place_of}
+use Rattle.answers.specs.Answers.{Answer, number_of, place_of}
 
 -- "An answer is a number and a place."
 pub record Reply : Type 0 where

@@ -1,9 +1,7 @@
 -- "The set number decides every length, the root and the number of slots".
 -- Assumes nothing: these are definitions.
-use Rattle.std.specs.Prelude.{cond, ℕ, ◌+◌, ◌*◌, ◌/◌, eqb}
+use Rattle.std.specs.Prelude.{cond, ℕ, ◌+◌, ◌*◌, ◌/◌, eqb, Option, Some, None}
 use Rattle.answers.specs.declared.Parameters.{Parameters}
-use Rattle.answers.specs.declared.SetChoice.{SetChoice}
-use Rattle.answers.specs.declared.SetChoice.TheVariants.{Known, Unknown}
 
 -- every length of the table of calls, of the set n whose root is w = 7^step
 unfoldable pub parameters_of : ℕ → ℕ → ℕ → Parameters
@@ -24,10 +22,10 @@ parameters_of n w step =
     }
 
 -- "| 576 | 49 | 1728 | 576 |", "| 1152 | 7 | 3456 | 1152 |"
-unfoldable pub set_of : ℕ → SetChoice
-set_of set = cond (eqb set 576) (Known (parameters_of 576 49 2)) (cond (eqb set 1152) (Known (parameters_of 1152 7 1)) Unknown)
+unfoldable pub set_of : ℕ → Option Parameters
+set_of set = cond (eqb set 576) (Some (parameters_of 576 49 2)) (cond (eqb set 1152) (Some (parameters_of 1152 7 1)) None)
 
 -- what is so of a known set, or what stands in for it
-unfoldable pub for_set : {A : Type 0} → SetChoice → A → (Parameters → A) → A
-for_set Unknown other f = other
-for_set (Known s) other f = f s
+unfoldable pub for_set : {A : Type 0} → Option Parameters → A → (Parameters → A) → A
+for_set None other f = other
+for_set (Some s) other f = f s

@@ -1,14 +1,14 @@
 // What a call can answer, and what a set number decides.
 #![tactic(auto)]
 
-ghost use Rattle.std.specs.Prelude.{◌≡◌, cond, ◌+◌, ◌<◌, ltb};
+ghost use Rattle.std.specs.Prelude.{◌≡◌, IfSome, Err, ◌+◌, ◌<◌, option_map};
+ghost use Rattle.std.specs.Option.{option_or};
 ghost use Rattle.answers.specs.Answers.{number_of, place_of};
 ghost use Rattle.answers.specs.Sets.{set_of};
 
-// A case holds what document 01 gives it: nothing, or the place.
-#[derive(Clone, Copy)]
-pub enum Answer {
-    Done,
+// Why a call was not done. A case holds what document 01 gives it: nothing, or the place.
+#[derive(Clone, Copy, PartialEq, Eq)]
+pub enum Refusal {
     UnknownSet,
     WrongLength,
     TooLarge(usize),
@@ -18,18 +18,43 @@ pub enum Answer {
     Malformed(usize),
 }
 
+// Done, or why not. Two numbers come of it, document 01's number and the place, so neither is a `From`.
+pub type Answer = Result<(), Refusal>;
+
+impl Refusal {
+    pub fn number(self) -> usize
+        ensures { result ≡ number_of (Err self) }
+    {
+        match self {
+            Refusal::UnknownSet => 1,
+            Refusal::WrongLength => 2,
+            Refusal::TooLarge(_) => 3,
+            Refusal::ZeroSlot(_) => 4,
+            Refusal::BadMark(_) => 5,
+            Refusal::Differs => 6,
+            Refusal::Malformed(_) => 7,
+        }
+    }
+
+    pub fn place(self) -> usize
+        ensures { result ≡ place_of (Err self) }
+    {
+        match self {
+            Refusal::UnknownSet | Refusal::WrongLength | Refusal::Differs => 0,
+            Refusal::TooLarge(at)
+            | Refusal::ZeroSlot(at)
+            | Refusal::BadMark(at)
+            | Refusal::Malformed(at) => at,
+        }
+    }
+}
+
 pub fn number(answer: Answer) -> usize
     ensures { result ≡ number_of answer }
 {
     match answer {
-        Answer::Done => 0,
-        Answer::UnknownSet => 1,
-        Answer::WrongLength => 2,
-        Answer::TooLarge(_) => 3,
-        Answer::ZeroSlot(_) => 4,
-        Answer::BadMark(_) => 5,
-        Answer::Differs => 6,
-        Answer::Malformed(_) => 7,
+        Ok(()) => 0,
+        Err(refusal) => refusal.number(),
     }
 }
 
@@ -37,14 +62,8 @@ pub fn place(answer: Answer) -> usize
     ensures { result ≡ place_of answer }
 {
     match answer {
-        Answer::Done => 0,
-        Answer::UnknownSet => 0,
-        Answer::WrongLength => 0,
-        Answer::TooLarge(at) => at,
-        Answer::ZeroSlot(at) => at,
-        Answer::BadMark(at) => at,
-        Answer::Differs => 0,
-        Answer::Malformed(at) => at,
+        Ok(()) => 0,
+        Err(refusal) => refusal.place(),
     }
 }
 
@@ -65,18 +84,12 @@ pub struct Parameters {
     pub key: usize,
 }
 
-#[derive(Clone, Copy)]
-pub enum SetChoice {
-    Known(Parameters),
-    Unknown,
-}
-
 // Any number can come, and is compared at its full width.
-pub fn set_of(set: usize) -> SetChoice
+pub fn set_of(set: usize) -> Option<Parameters>
     ensures { result ≡ set_of set }
 {
     match set {
-        576 => SetChoice::Known(Parameters {
+        576 => Some(Parameters {
             n: 576,
             half: 288,
             slots: 576,
@@ -90,7 +103,7 @@ pub fn set_of(set: usize) -> SetChoice
             gblock: 144,
             key: 32,
         }),
-        1152 => SetChoice::Known(Parameters {
+        1152 => Some(Parameters {
             n: 1152,
             half: 576,
             slots: 1152,
@@ -104,14 +117,14 @@ pub fn set_of(set: usize) -> SetChoice
             gblock: 288,
             key: 32,
         }),
-        _ => SetChoice::Unknown,
+        _ => None,
     }
 }
 
-// A place found in one of two inputs, counted through both: the first holds n numbers, and n stands for none of them.
-pub fn through(n: usize, first: usize, rest: usize) -> usize
-    requires { n + rest < 65536 }
-    ensures { result ≡ cond (ltb first n) first (n + rest) }
+// A place found in one of two inputs, counted through both, of which the first holds n numbers.
+pub fn through(n: usize, first: Option<usize>, rest: Option<usize>) -> Option<usize>
+    requires { IfSome rest (λ at. n + at < 65536) }
+    ensures { result ≡ option_or first (option_map (λ at. n + at) rest) }
 {
-    if first < n { first } else { n + rest }
+    first.or(rest.map(|at| n + at))
 }

@@ -1,157 +1,161 @@
 // Key making, sealing and opening, with the pair of the bench values.
-use crate::lengths::Lengths;
-use answers::Answer;
-use bench_rooms::room::{At, part, part_mut};
-use bench_rooms::{room, show};
+use answers::{Answer, Parameters};
+use bench_rooms::room::{self, BYTES, Input, Unwritten, kept, part, part_mut};
+use bench_rooms::show::{Answered, Outcome, Periods, Places};
+use calls_halves::f_half::f_half;
+use calls_halves::h_half::h_half;
+use std::fmt;
 
 // The pair of a seed block that is zero but for the byte where its second half begins: with 1 the bench pair.
-fn pair(l: Lengths, byte: u8, public: &mut [u8], private: &mut [u8]) -> Answer {
-    let mut seed = room::bytes(0);
-    room::put(&mut seed, At(l.seed / 2, byte));
+fn pair(set: Parameters, byte: u8, public: &mut [u8], private: &mut [u8]) -> Answer {
+    let seed = Input::ZerosBut(&[(set.seed / 2, byte)]).room();
     calls_make::make(
-        l.n,
-        part(&seed, l.seed),
-        part_mut(public, l.packed),
-        part_mut(private, l.private),
+        set.n,
+        part(&seed, set.seed),
+        part_mut(public, set.packed),
+        part_mut(private, set.private),
     )
 }
 
 // The seed block of zeros, and the bench pair.
-pub fn make(l: Lengths) {
-    let mut public = room::bytes(165);
-    let mut private = room::bytes(165);
-    let zeros = pair(l, 0, &mut public, &mut private);
-    show::text(b"make zeros");
-    show::outcome(zeros, room::kept(&public) & room::kept(&private));
-    show::text(b"make byte ");
-    show::number(l.seed / 2);
-    show::answer(b": ", pair(l, 1, &mut public, &mut private));
-    show::text(b"\npublic: ");
-    show::periods(part(&public, l.packed), 3);
-    show::text(b"\nprivate: ");
-    halves(l.n, part(&private, l.private));
+pub fn make(out: &mut impl fmt::Write, set: Parameters) -> fmt::Result {
+    let mut public = [u8::FILL; BYTES];
+    let mut private = [u8::FILL; BYTES];
+    let answer = pair(set, 0, &mut public, &mut private);
+    let outcome = Outcome {
+        answer,
+        kept: kept(&public) && kept(&private),
+    };
+    writeln!(out, "make zeros: {outcome}")?;
+    let answer = pair(set, 1, &mut public, &mut private);
+    writeln!(out, "make byte {}: {}", set.seed / 2, Answered(answer))?;
+    writeln!(out, "public: {}", triples(part(&public, set.packed)))?;
+    halves(out, "private", set.n, part(&private, set.private))
+}
+
+fn triples(bytes: &[u8]) -> Periods {
+    Periods { bytes, period: 3 }
 }
 
 // The halves of a private key.
-fn halves(set: usize, key: &[u8]) {
-    show::periods(calls_halves::f_half::f_half(set, key), 3);
-    show::text(b", ");
-    show::periods(calls_halves::h_half::h_half(set, key), 3);
-    show::text(b"\n");
+fn halves(out: &mut impl fmt::Write, name: &str, set: usize, key: &[u8]) -> fmt::Result {
+    writeln!(
+        out,
+        "{name}: {}, {}",
+        triples(f_half(set, key)),
+        triples(h_half(set, key))
+    )
 }
 
 // The halves of the first bytes of a key of FF bytes.
-pub fn full_halves(set: usize, length: usize) {
-    let room = room::bytes(255);
-    show::text(b"halves: ");
-    halves(set, part(&room, length));
+pub fn full_halves(out: &mut impl fmt::Write, set: usize, length: usize) -> fmt::Result {
+    halves(out, "halves", set, part(&[0xFF; BYTES], length))
 }
 
-// Seals, and prints the ciphertext and the key.
-fn seal(
-    l: Lengths,
-    public: &[u8],
-    message: &[u8],
-    hblock: &[u8],
-    gblock: &[u8],
-    cipher: &mut [u8],
-) {
-    let mut key = room::bytes(165);
-    let answer = calls_seal::seal(
-        l.n,
-        part(public, l.packed),
-        part(message, l.message),
-        part(hblock, l.hblock),
-        part(gblock, l.gblock),
-        part_mut(cipher, l.packed),
-        part_mut(&mut key, 32),
-    );
-    show::answer(b"seal: ", answer);
-    show::text(b"\ncipher: ");
-    show::periods(part(cipher, l.packed), 3);
-    show::text(b"\nkey: ");
-    show::places(part(&key, 32));
+// What is sealed with the bench pair, and opened: the ciphertext that comes of it, or another one.
+#[derive(Clone, Copy)]
+pub struct Exchange<'a> {
+    pub message: Input<'a>,
+    pub hblock: Input<'a>,
+    pub gblock: Input<'a>,
+    pub cipher: Option<Input<'a>>,
 }
 
-// Seals. Or the ciphertext is 2 in all slots, which no encoding with a zero G block and r = 1 gives.
-fn sealed_or_twos(
-    l: Lengths,
-    sealed: bool,
-    public: &[u8],
-    message: &[u8],
-    hblock: &[u8],
-    gblock: &[u8],
-    cipher: &mut [u8],
-) {
-    if sealed {
-        seal(l, public, message, hblock, gblock, cipher);
-    } else {
-        room::repeat(cipher, 2, 32);
+// All inputs are zeros, and the ciphertext is the sealed one.
+pub const PLAIN: Exchange<'static> = Exchange {
+    message: room::ZEROS,
+    hblock: room::ZEROS,
+    gblock: room::ZEROS,
+    cipher: None,
+};
+
+impl Exchange<'_> {
+    pub fn run(self, out: &mut impl fmt::Write, set: Parameters) -> fmt::Result {
+        let mut public = [u8::FILL; BYTES];
+        let mut private = [u8::FILL; BYTES];
+        let answer = pair(set, 1, &mut public, &mut private);
+        writeln!(out, "make: {}", Answered(answer))?;
+        let cipher = match self.cipher {
+            Some(cipher) => cipher.room(),
+            None => self.seal(out, set, &public)?,
+        };
+        self.open(out, set, &private, &cipher)
     }
-}
 
-// Opens a ciphertext that an H block and a G block belong to: the marks and the packed image of r, and the later stages.
-fn open(l: Lengths, private: &[u8], cipher: &[u8], hblock: &[u8], gblock: &[u8]) {
-    let mut marks = room::bytes(165);
-    let mut image = room::bytes(165);
-    let answer = calls_open_1::open_1(
-        l.n,
-        part(private, l.private),
-        part(cipher, l.packed),
-        part_mut(&mut marks, l.n),
-        part_mut(&mut image, l.packed),
-    );
-    show::answer(b"open-1: ", answer);
-    show::text(b"\nmarks: ");
-    show::places(part(&marks, l.n));
-    show::text(b"image: ");
-    show::periods(part(&image, l.packed), 3);
-    open_message(l, &marks, gblock);
-    open_key(l, &image, hblock);
-}
+    // Seals, and prints the ciphertext and the key.
+    fn seal(
+        self,
+        out: &mut impl fmt::Write,
+        set: Parameters,
+        public: &[u8],
+    ) -> Result<[u8; BYTES], fmt::Error> {
+        let message = self.message.room();
+        let hblock = self.hblock.room();
+        let gblock = self.gblock.room();
+        let mut cipher = [u8::FILL; BYTES];
+        let mut key = [u8::FILL; BYTES];
+        let answer = calls_seal::seal(
+            set.n,
+            part(public, set.packed),
+            part(&message, set.message),
+            part(&hblock, set.hblock),
+            part(&gblock, set.gblock),
+            part_mut(&mut cipher, set.packed),
+            part_mut(&mut key, set.key),
+        );
+        writeln!(out, "seal: {}", Answered(answer))?;
+        writeln!(out, "cipher: {}", triples(part(&cipher, set.packed)))?;
+        writeln!(out, "key: {}", Places(part(&key, set.key)))?;
+        Ok(cipher)
+    }
 
-// The second stage of opening.
-fn open_message(l: Lengths, marks: &[u8], gblock: &[u8]) {
-    let mut message = room::bytes(165);
-    let answer = calls_open_2::open_2(
-        l.n,
-        part(marks, l.n),
-        part(gblock, l.gblock),
-        part_mut(&mut message, l.message),
-    );
-    show::answer(b"\nopen-2: ", answer);
-    show::text(b"\nmessage: ");
-    show::places(part(&message, l.message));
-}
+    // The three stages: the marks and the packed image of r, the message, and the key.
+    fn open(
+        self,
+        out: &mut impl fmt::Write,
+        set: Parameters,
+        private: &[u8],
+        cipher: &[u8],
+    ) -> fmt::Result {
+        let mut marks = [u8::FILL; BYTES];
+        let mut image = [u8::FILL; BYTES];
+        let answer = calls_open_1::open_1(
+            set.n,
+            part(private, set.private),
+            part(cipher, set.packed),
+            part_mut(&mut marks, set.n),
+            part_mut(&mut image, set.packed),
+        );
+        writeln!(out, "open-1: {}", Answered(answer))?;
+        writeln!(out, "marks: {}", Places(part(&marks, set.n)))?;
+        writeln!(out, "image: {}", triples(part(&image, set.packed)))?;
+        self.open_message(out, set, &marks)?;
+        self.open_key(out, set, &image)
+    }
 
-// The third.
-fn open_key(l: Lengths, image: &[u8], hblock: &[u8]) {
-    let mut key = room::bytes(165);
-    let answer = calls_open_3::open_3(
-        l.n,
-        part(image, l.packed),
-        part(hblock, l.hblock),
-        part_mut(&mut key, 32),
-    );
-    show::answer(b"open-3: ", answer);
-    show::text(b"\nkey: ");
-    show::places(part(&key, 32));
-}
+    fn open_message(self, out: &mut impl fmt::Write, set: Parameters, marks: &[u8]) -> fmt::Result {
+        let gblock = self.gblock.room();
+        let mut message = [u8::FILL; BYTES];
+        let answer = calls_open_2::open_2(
+            set.n,
+            part(marks, set.n),
+            part(&gblock, set.gblock),
+            part_mut(&mut message, set.message),
+        );
+        writeln!(out, "open-2: {}", Answered(answer))?;
+        writeln!(out, "message: {}", Places(part(&message, set.message)))
+    }
 
-// Seals and opens. All is zero but for a byte of the message, of the H block and of the G block, and the first key bytes, which count from 1 on.
-pub fn exchange(l: Lengths, sealed: bool, message: At, hblock: At, keys: usize, gblock: At) {
-    let mut m = room::bytes(0);
-    room::put(&mut m, message);
-    let mut h = room::bytes(0);
-    room::put(&mut h, hblock);
-    room::count_up(&mut h, keys);
-    let mut g = room::bytes(0);
-    room::put(&mut g, gblock);
-    let mut public = room::bytes(165);
-    let mut private = room::bytes(165);
-    let mut cipher = room::bytes(165);
-    show::answer(b"make: ", pair(l, 1, &mut public, &mut private));
-    show::text(b"\n");
-    sealed_or_twos(l, sealed, &public, &m, &h, &g, &mut cipher);
-    open(l, &private, &cipher, &h, &g);
+    fn open_key(self, out: &mut impl fmt::Write, set: Parameters, image: &[u8]) -> fmt::Result {
+        let hblock = self.hblock.room();
+        let mut key = [u8::FILL; BYTES];
+        let answer = calls_open_3::open_3(
+            set.n,
+            part(image, set.packed),
+            part(&hblock, set.hblock),
+            part_mut(&mut key, set.key),
+        );
+        writeln!(out, "open-3: {}", Answered(answer))?;
+        writeln!(out, "key: {}", Places(part(&key, set.key)))
+    }
 }

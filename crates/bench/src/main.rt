@@ -3,22 +3,26 @@
 
 mod agreement;
 mod cases;
-mod lengths;
 mod values;
 
-use bench_rooms::room::At;
-
-// The bench values of document 01 that are not marked: all zero but for byte 32 of the H block, which makes r = 1.
-fn bench_values(l: lengths::Lengths) {
-    let none = At(0, 0);
-    agreement::make(l);
-    agreement::exchange(l, true, none, At(32, 1), 0, none);
-}
+use bench_rooms::show::Output;
+use std::fmt;
 
 // The bench values of both sets, and the other cases.
+fn run(out: &mut impl fmt::Write) -> fmt::Result {
+    let (Some(small), Some(large)) = (answers::set_of(576), answers::set_of(1152)) else {
+        return Ok(());
+    };
+    cases::bench_values(out, small)?;
+    cases::bench_values(out, large)?;
+    cases::agreements(out, small, large)?;
+    cases::halves(out)?;
+    cases::polynomials(out)?;
+    cases::samples(out, small, large)?;
+    cases::large_numbers(out)
+}
+
 fn main() {
-    bench_values(lengths::of_576());
-    bench_values(lengths::of_1152());
-    cases::agreements();
-    cases::polynomials();
+    // `Output` gives no error.
+    let _ = run(&mut Output);
 }

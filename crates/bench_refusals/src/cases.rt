@@ -1,71 +1,76 @@
-// The inputs that are run beside the lengths one off.
-use crate::lend::{Call, lending};
-use crate::trial;
-use bench_rooms::room::At;
+// What is tried.
+use crate::call::{CALLS, Call};
+use crate::trial::{Off, Trial};
+use bench_rooms::room::Input::{Filled, ZerosBut};
+use bench_rooms::room::ZEROS;
+use std::fmt;
+
+// All calls with the right lengths, and then with each of their buffers one off.
+pub fn lengths(out: &mut impl fmt::Write) -> fmt::Result {
+    for n in [576, 1152] {
+        for call in CALLS {
+            let right = Trial::new(call, usize::from(n), n);
+            right.run(out)?;
+            right.run_one_off(out)?;
+        }
+    }
+    Ok(())
+}
 
 // Sets that are none: two are 576 in their low bits.
-pub fn sets() {
-    trial::rows(66112, 576, 0);
-    trial::rows(4294967872, 576, 0);
-    trial::rows(0, 576, 0);
-    trial::rows(575, 576, 0);
-    trial::rows(768, 576, 0);
-    trial::rows(864, 576, 0);
+pub fn sets(out: &mut impl fmt::Write) -> fmt::Result {
+    for set in [66112, 4294967872, 0, 575, 768, 864] {
+        for call in CALLS {
+            Trial::new(call, set, 576).run(out)?;
+        }
+    }
+    Ok(())
 }
 
 // The first group above 3456 through all inputs, and a zero slot of g, of f and g, and of f alone.
-pub fn groups() {
-    let no = At(0, 0);
-    let last = At(863, 255);
-    let end = At(1727, 255);
-    let small = lending(576, 576, 9);
-    let large = lending(1152, 1152, 9);
-    trial::named(Call::OpenOne, small, At(1727, 255), no, no, 255, last);
-    trial::named(Call::OpenOne, small, no, no, no, 0, last);
-    trial::named(Call::OpenOne, large, At(3455, 255), no, no, 255, end);
-    trial::named(Call::OpenOne, large, no, no, no, 0, end);
-    trial::named(Call::Seal, small, At(11, 255), no, no, 0, no);
-    trial::named(Call::Seal, large, At(1727, 255), no, no, 0, no);
-    trial::named(Call::Make, small, At(144, 13), At(146, 1), no, 0, no);
-    trial::named(Call::Make, small, At(144, 13), At(146, 1), At(1, 31), 0, no);
-    trial::named(Call::Make, small, At(144, 1), At(1, 31), no, 0, no);
-    trial::named(Call::Make, large, At(288, 35), no, no, 0, no);
-    trial::named(Call::Make, large, At(288, 35), At(0, 123), At(1, 0), 0, no);
-    trial::named(Call::Make, large, At(288, 1), At(0, 123), At(1, 0), 0, no);
+pub fn groups(out: &mut impl fmt::Write) -> fmt::Result {
+    let open = Trial::small(Call::OpenOne);
+    open.run_on(out, ZerosBut(&[(1727, 255)]), Filled(255))?;
+    open.run_on(out, ZEROS, ZerosBut(&[(863, 255)]))?;
+    let open = Trial::large(Call::OpenOne);
+    open.run_on(out, ZerosBut(&[(3455, 255)]), Filled(255))?;
+    open.run_on(out, ZEROS, ZerosBut(&[(1727, 255)]))?;
+    Trial::small(Call::Seal).run_on(out, ZerosBut(&[(11, 255)]), ZEROS)?;
+    Trial::large(Call::Seal).run_on(out, ZerosBut(&[(1727, 255)]), ZEROS)?;
+    let make = Trial::small(Call::Make);
+    make.run_on(out, ZerosBut(&[(144, 13), (146, 1)]), ZEROS)?;
+    make.run_on(out, ZerosBut(&[(144, 13), (146, 1), (1, 31)]), ZEROS)?;
+    make.run_on(out, ZerosBut(&[(144, 1), (1, 31)]), ZEROS)?;
+    let make = Trial::large(Call::Make);
+    make.run_on(out, ZerosBut(&[(288, 35)]), ZEROS)?;
+    make.run_on(out, ZerosBut(&[(288, 35), (0, 123)]), ZEROS)?;
+    make.run_on(out, ZerosBut(&[(288, 1), (0, 123)]), ZEROS)
 }
 
 // Marks above 2, an H block with one bit of its last byte turned, and two refusals that apply at once: the smaller number is answered.
-pub fn others() {
-    let no = At(0, 0);
-    let turned = At(175, 128);
-    let end = At(1727, 255);
-    let small = lending(576, 576, 9);
-    let large = lending(1152, 1152, 9);
-    trial::named(Call::OpenTwo, small, At(5, 3), At(9, 255), no, 0, no);
-    trial::named(Call::OpenTwo, large, At(1151, 3), At(9, 2), no, 0, no);
-    trial::named(Call::OpenThree, small, no, no, no, 0, turned);
-    trial::named(Call::OpenThree, large, no, no, no, 0, At(319, 1));
-    trial::named(Call::Make, lending(768, 0, 9), no, no, no, 0, no);
-    trial::named(Call::Make, lending(576, 576, 4), no, no, no, 0, no);
-    trial::named(Call::Seal, lending(576, 576, 5), At(11, 255), no, no, 0, no);
-    trial::named(
-        Call::OpenOne,
-        lending(1152, 1152, 5),
-        At(3455, 255),
-        no,
-        no,
-        255,
-        end,
-    );
-    trial::named(
-        Call::OpenThree,
-        lending(576, 576, 4),
-        At(863, 255),
-        no,
-        no,
-        0,
-        turned,
-    );
-    trial::named(Call::OpenThree, small, At(863, 255), no, no, 0, turned);
-    trial::named(Call::OpenThree, large, end, no, no, 0, At(319, 1));
+pub fn others(out: &mut impl fmt::Write) -> fmt::Result {
+    let small = Trial::small(Call::OpenTwo);
+    small.run_on(out, ZerosBut(&[(5, 3), (9, 255)]), ZEROS)?;
+    let large = Trial::large(Call::OpenTwo);
+    large.run_on(out, ZerosBut(&[(1151, 3), (9, 2)]), ZEROS)?;
+    let small = Trial::small(Call::OpenThree);
+    let large = Trial::large(Call::OpenThree);
+    small.run_on(out, ZEROS, ZerosBut(&[(175, 128)]))?;
+    large.run_on(out, ZEROS, ZerosBut(&[(319, 1)]))?;
+    two_refusals(out)?;
+    small.run_on(out, ZerosBut(&[(863, 255)]), ZerosBut(&[(175, 128)]))?;
+    large.run_on(out, ZerosBut(&[(1727, 255)]), ZerosBut(&[(319, 1)]))
+}
+
+// A length, and what would be refused besides.
+fn two_refusals(out: &mut impl fmt::Write) -> fmt::Result {
+    Trial::new(Call::Make, 768, 0).run_on(out, ZEROS, ZEROS)?;
+    let make = Trial::small(Call::Make).but(4, Off::Above);
+    make.run_on(out, ZEROS, ZEROS)?;
+    let seal = Trial::small(Call::Seal).but(5, Off::Above);
+    seal.run_on(out, ZerosBut(&[(11, 255)]), ZEROS)?;
+    let open = Trial::large(Call::OpenOne).but(5, Off::Above);
+    open.run_on(out, ZerosBut(&[(3455, 255)]), Filled(255))?;
+    let open = Trial::small(Call::OpenThree).but(4, Off::Above);
+    open.run_on(out, ZerosBut(&[(863, 255)]), ZerosBut(&[(175, 128)]))
 }

@@ -1,105 +1,172 @@
-// One call, and whether its outputs are kept. They hold A5 before it.
-use crate::lend;
-use crate::lend::{Call, Lent, lending};
-use bench_rooms::room::At;
-use bench_rooms::{room, show};
+// One call, and whether its outputs are kept.
+use crate::call::Call;
+use bench_rooms::room::{BYTES, Input, NUMBERS, Unwritten, ZEROS, kept, part, part_mut};
+use bench_rooms::show::Outcome;
+use std::fmt;
 
-// Prints the name of a call.
-fn name(call: Call) {
-    match call {
-        Call::Product => show::text(b"product"),
-        Call::Transform => show::text(b"transform"),
-        Call::Reverse => show::text(b"reverse"),
-        Call::Make => show::text(b"make"),
-        Call::RImage => show::text(b"r-image"),
-        Call::Seal => show::text(b"seal"),
-        Call::OpenOne => show::text(b"open-1"),
-        Call::OpenTwo => show::text(b"open-2"),
-        Call::OpenThree => show::text(b"open-3"),
-    }
+#[derive(Clone, Copy)]
+pub enum Off {
+    Below,
+    Above,
 }
 
-// A call on lists of ones.
-fn lists(call: Call, lent: Lent) {
-    let ones = room::numbers(1);
-    let mut out = room::numbers(42405);
-    let answer = lend::on_lists(call, lent, &ones, &ones, &mut out);
-    show::outcome(answer, room::kept_list(&out));
+// A call with a set number, the n that decides the lengths of its buffers, and the buffer that is one off.
+#[derive(Clone, Copy)]
+pub struct Trial {
+    call: Call,
+    set: usize,
+    n: u16,
+    off: Option<(usize, Off)>,
 }
 
-// A call on bytes: the first input is zero but for three, the second has one byte value but for one, and the others are zero.
-fn bytes(call: Call, lent: Lent, one: At, two: At, three: At, fill: u8, last: At) {
-    let zeros = room::bytes(0);
-    let mut a = room::bytes(0);
-    room::put(&mut a, one);
-    room::put(&mut a, two);
-    room::put(&mut a, three);
-    let mut b = room::bytes(fill);
-    room::put(&mut b, last);
-    let mut out = room::bytes(165);
-    let mut other = room::bytes(165);
-    let answer = lend::on_bytes(call, lent, &a, &b, &zeros, &zeros, &mut out, &mut other);
-    show::outcome(answer, room::kept(&out) & room::kept(&other));
-}
-
-// The same, with the name of the call before it.
-pub fn named(call: Call, lent: Lent, one: At, two: At, three: At, fill: u8, last: At) {
-    name(call);
-    bytes(call, lent, one, two, three, fill, last);
-}
-
-// A call with inputs that are right, with its name, the set number, and the buffer that is one off.
-fn attempt(call: Call, lent: Lent, buffer: usize) {
-    name(call);
-    show::text(b" ");
-    show::number(lent.set);
-    if lent.at < 6 {
-        show::text(b" buffer ");
-        show::number(buffer);
-        if lent.above {
-            show::text(b" +1");
-        } else {
-            show::text(b" -1");
+impl Trial {
+    pub fn new(call: Call, set: usize, n: u16) -> Trial {
+        Trial {
+            call,
+            set,
+            n,
+            off: None,
         }
     }
-    let none = At(0, 0);
-    match call {
-        Call::Product => lists(call, lent),
-        Call::Transform => lists(call, lent),
-        Call::Reverse => lists(call, lent),
-        Call::Make => bytes(call, lent, At(lent.n / 4, 1), none, none, 0, none),
-        _ => bytes(call, lent, none, none, none, 0, none),
-    }
-}
 
-// The call with the right lengths, and then with each of its buffers one off.
-fn row(call: Call, set: usize, n: usize, buffers: usize) {
-    attempt(call, lending(set, n, 9), 0);
-    let mut buffer = 0;
-    for at in 0..buffers {
-        if 0 < lend::length(call, lending(set, n, 9), at) {
-            let below = Lent {
-                set: set,
-                n: n,
-                at: at,
-                above: false,
-            };
-            attempt(call, below, buffer);
-            attempt(call, lending(set, n, at), buffer);
-            buffer = buffer % 6 + 1;
+    pub fn small(call: Call) -> Trial {
+        Trial::new(call, 576, 576)
+    }
+
+    pub fn large(call: Call) -> Trial {
+        Trial::new(call, 1152, 1152)
+    }
+
+    // The same with one buffer one off.
+    pub fn but(self, buffer: usize, off: Off) -> Trial {
+        Trial {
+            off: Some((buffer, off)),
+            ..self
         }
     }
+
+    fn lengths(self) -> [usize; 6] {
+        let mut lengths = self.call.lengths(self.n);
+        if let Some((buffer, off)) = self.off {
+            if let Some(length) = lengths.get_mut(buffer) {
+                *length = match off {
+                    Off::Below => length.saturating_sub(1),
+                    Off::Above => length.saturating_add(1),
+                };
+            }
+        }
+        lengths
+    }
+
+    // A call on bytes has these first two inputs, and zeros as further ones; a call on lists has ones.
+    fn outcome(self, first: Input, second: Input) -> Outcome {
+        let set = self.set;
+        let [a, b, c, d, e, f] = self.lengths();
+        let ones = [1u16; NUMBERS];
+        let first = first.room();
+        let second = second.room();
+        let zeros = [0u8; BYTES];
+        let mut list = [u16::FILL; NUMBERS];
+        let mut out = [u8::FILL; BYTES];
+        let mut other = [u8::FILL; BYTES];
+        let answer = match self.call {
+            Call::Product => calls_product::product(
+                set,
+                part(&ones, a),
+                part(&ones, b),
+                part_mut(&mut list, e),
+            ),
+            Call::Transform => calls_transforms::transform::transform(
+                set,
+                part(&ones, a),
+                part_mut(&mut list, e),
+            ),
+            Call::Reverse => calls_transforms::reverse::reverse(
+                set,
+                part(&ones, a),
+                part_mut(&mut list, e),
+            ),
+            Call::Make => calls_make::make(
+                set,
+                part(&first, a),
+                part_mut(&mut out, e),
+                part_mut(&mut other, f),
+            ),
+            Call::RImage => { calls_r_image::r_image(set, part(&first, a), part_mut(&mut out, e)) }
+            Call::Seal => calls_seal::seal(
+                set,
+                part(&first, a),
+                part(&second, b),
+                part(&zeros, c),
+                part(&zeros, d),
+                part_mut(&mut out, e),
+                part_mut(&mut other, f),
+            ),
+            Call::OpenOne => calls_open_1::open_1(
+                set,
+                part(&first, a),
+                part(&second, b),
+                part_mut(&mut out, e),
+                part_mut(&mut other, f),
+            ),
+            Call::OpenTwo => calls_open_2::open_2(
+                set,
+                part(&first, a),
+                part(&second, b),
+                part_mut(&mut out, e),
+            ),
+            Call::OpenThree => calls_open_3::open_3(
+                set,
+                part(&first, a),
+                part(&second, b),
+                part_mut(&mut out, e),
+            ),
+        };
+        Outcome {
+            answer,
+            kept: kept(&list) && kept(&out) && kept(&other),
+        }
+    }
+
+    // The outcome on inputs that are right.
+    fn usual(self) -> Outcome {
+        let seed = [(usize::from(self.n / 4), 1)];
+        let first = match self.call {
+            Call::Make => Input::ZerosBut(&seed),
+            _ => ZEROS,
+        };
+        self.outcome(first, ZEROS)
+    }
+
+    // Prints the call's name and the outcome.
+    pub fn run_on(self, out: &mut impl fmt::Write, first: Input, second: Input) -> fmt::Result {
+        writeln!(out, "{}: {}", self.call, self.outcome(first, second))
+    }
+
+    // The same on inputs that are right, with the set number.
+    pub fn run(self, out: &mut impl fmt::Write) -> fmt::Result {
+        writeln!(out, "{self}: {}", self.usual())
+    }
+
+    // The same with each of the call's buffers one off.
+    pub fn run_one_off(self, out: &mut impl fmt::Write) -> fmt::Result {
+        let lengths = self.lengths();
+        let lent = lengths
+            .iter()
+            .enumerate()
+            .filter(|(_, length)| 0 < **length);
+        for (number, (buffer, _)) in lent.enumerate() {
+            let below = self.but(buffer, Off::Below).usual();
+            writeln!(out, "{self} buffer {number} -1: {below}")?;
+            let above = self.but(buffer, Off::Above).usual();
+            writeln!(out, "{self} buffer {number} +1: {above}")?;
+        }
+        Ok(())
+    }
 }
 
-// All calls with the lengths for n: with 6 also with each buffer one off, with 0 not.
-pub fn rows(set: usize, n: usize, buffers: usize) {
-    row(Call::Product, set, n, buffers);
-    row(Call::Transform, set, n, buffers);
-    row(Call::Reverse, set, n, buffers);
-    row(Call::Make, set, n, buffers);
-    row(Call::RImage, set, n, buffers);
-    row(Call::Seal, set, n, buffers);
-    row(Call::OpenOne, set, n, buffers);
-    row(Call::OpenTwo, set, n, buffers);
-    row(Call::OpenThree, set, n, buffers);
+impl fmt::Display for Trial {
+    fn fmt<W: fmt::Write>(&self, f: &mut fmt::Formatter<W>) -> fmt::Result {
+        write!(f, "{} {}", self.call, self.set)
+    }
 }

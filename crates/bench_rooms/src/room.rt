@@ -1,161 +1,175 @@
 // Rooms for the buffers of a call. Each is long enough for one place more than the larger set asks for.
-ghost use Rattle.std.specs.Prelude.{◌≡◌, ◌<◌, length};
+ghost use Rattle.std.specs.Prelude.{◌≡◌, ◌↔◌, ℕ, ◌+◌, ◌*◌, ◌/◌, ◌%◌, ◌<◌, ◌≤◌, ◌==◌, All, EachIndex, IsTrue, length, replicate, slice_index, slice_set, take, take_while, zip};
+ghost use Rattle.std.proofs.Common.{rules, true};
+ghost use Rattle.bench_rooms.specs.Rooms.{IsRoomOf, number_at, stored, unpacked_count};
 
-// A room of equal bytes.
-pub fn bytes(fill: u8) -> [u8; 3457]
-    ensures { 3457 ≡ length result }
+pub const BYTES: usize = 3457;
+
+pub const NUMBERS: usize = 1153;
+
+// What an output is filled with before a call.
+pub trait Unwritten: Copy + PartialEq {
+    ghost FILL: { Self };
+
+    const FILL: Self;
+
+    // A value is told from it by `==`.
+    ghost told_apart: { (x : Self) → Self.eq x FILL ≡ true ↔ x ≡ FILL };
+}
+
+impl Unwritten for u8 {
+    ghost FILL = { 165 };
+
+    const FILL: u8 = 0xA5;
+
+    ghost told_apart = { Prim.search rules };
+}
+
+impl Unwritten for u16 {
+    ghost FILL = { 42405 };
+
+    const FILL: u16 = 0xA5A5;
+
+    ghost told_apart = { Prim.search rules };
+}
+
+// Whether an output still holds what it was filled with.
+pub fn kept<T: Unwritten>(room: &[T]) -> bool
+    ensures { IsTrue result ↔ All (λ x. x ≡ T.FILL) room.now }
 {
-    [fill; 3457]
+    room.iter().all(|x| *x == T::FILL)
 }
 
-// A room of equal numbers.
-pub fn numbers(fill: u16) -> [u16; 1153]
-    ensures { 1153 ≡ length result }
+// The first n places, or all where there are fewer.
+pub fn part<T>(room: &[T], n: usize) -> &[T]
+    ensures { result.now ≡ take n room.now }
 {
-    [fill; 1153]
+    &room[..n.min(room.len())]
 }
 
-// The first n bytes.
-pub fn part(room: &[u8], n: usize) -> &[u8] {
-    if n <= room.len() {
-        &room[..n]
-    } else {
-        &room[..0]
+// The same, to be written. What the room ends as is not said: the library says it of no part by a range, and a clause here got no proof.
+pub fn part_mut<T>(room: &mut [T], n: usize) -> &mut [T]
+    ensures { result.now ≡ take n room.old }
+{
+    let end = n.min(room.len());
+    &mut room[..end]
+}
+
+// Stores each value at its place, if the room has it. By index, since of a write through `get_mut` a proof knows nothing.
+fn put<T: Copy>(room: &mut [T], values: &[(usize, T)])
+    ensures { room.new ≡ stored room.old values.now }
+{
+    for (place, value) in values {
+        if *place < room.len() {
+            room[*place] = *value;
+        }
     }
 }
 
-// The first n bytes, to be written.
-pub fn part_mut(room: &mut [u8], n: usize) -> &mut [u8] {
-    if n <= room.len() {
-        &mut room[..n]
-    } else {
-        &mut room[..0]
+// A list of zeros but for one number.
+pub fn zeros_but(place: usize, number: u16) -> [u16; NUMBERS]
+    ensures length { NUMBERS ≡ length result }
+    ensures numbers { result ≡ slice_set (replicate NUMBERS 0) place number }
+{
+    let mut room = [0; NUMBERS];
+    put(&mut room, &[(place, number)]);
+    room
+}
+
+// The numbers 0, 1, .., 1152.
+pub fn ramp() -> [u16; NUMBERS]
+    ensures length { NUMBERS ≡ length result }
+    ensures numbers { EachIndex result (λ k. slice_index result k ≡ k) }
+{
+    let mut room = [0; NUMBERS];
+    for (k, x) in room.iter_mut().enumerate() {
+        *x = k as u16;
+    }
+    room
+}
+
+// Writes three bytes again and again, as often as all three fit.
+fn repeat(room: &mut [u8], bytes: [u8; 3])
+    ensures bytes { (k : ℕ) → k < length room.old / 3 * 3 → slice_index room.new k ≡ slice_index bytes (k % 3) }
+    ensures rest { (k : ℕ) → length room.old / 3 * 3 ≤ k → slice_index room.new k ≡ slice_index room.old k }
+{
+    let end = room.len() / 3 * 3;
+    for (k, x) in room.iter_mut().enumerate() {
+        if k < end {
+            *x = bytes[k % 3];
+        }
     }
 }
 
-// The first n numbers.
-pub fn list(room: &[u16], n: usize) -> &[u16] {
-    if n <= room.len() {
-        &room[..n]
-    } else {
-        &room[..0]
+// Writes 1, 2, .., 32.
+fn count_up(room: &mut [u8])
+    ensures bytes { (k : ℕ) → k < 32 → k < length room.old → slice_index room.new k ≡ k + 1 }
+    ensures rest { (k : ℕ) → 32 ≤ k → slice_index room.new k ≡ slice_index room.old k }
+{
+    for (k, x) in room.iter_mut().enumerate() {
+        if k < 32 {
+            *x = k as u8 + 1;
+        }
     }
 }
 
-// The first n numbers, to be written.
-pub fn list_mut(room: &mut [u16], n: usize) -> &mut [u16] {
-    if n <= room.len() {
-        &mut room[..n]
-    } else {
-        &mut room[..0]
-    }
-}
-
-// A place and the byte that is put there.
+// The bytes of an input: all alike, three again and again, zeros but for some places, or 1, 2, .., 32 and then zeros.
 #[derive(Clone, Copy)]
-pub struct At(pub usize, pub u8);
-
-// Stores a byte, if the room has the place.
-pub fn put(room: &mut [u8], at: At) {
-    let place = at.0;
-    if place < room.len() {
-        room[place] = at.1;
-    }
+pub enum Input<'a> {
+    Filled(u8),
+    Triples([u8; 3]),
+    ZerosBut(&'a [(usize, u8)]),
+    Counting,
 }
 
-// Stores a number, if the room has the place.
-pub fn put_number(room: &mut [u16], at: usize, number: u16) {
-    if at < room.len() {
-        room[at] = number;
-    }
-}
+pub const ZEROS: Input<'static> = Input::Filled(0);
 
-// Whether an output still holds the bytes A5 that it was filled with.
-pub fn kept(room: &[u8]) -> bool {
-    for i in 0..room.len() {
-        if room[i] != 165 {
-            return false;
+impl Input<'_> {
+    pub fn room(self) -> [u8; BYTES]
+        ensures length { BYTES ≡ length result }
+        ensures bytes { IsRoomOf self.entry result }
+    {
+        let mut room = [0; BYTES];
+        match self {
+            Input::Filled(byte) => room.fill(byte),
+            Input::Triples(bytes) => repeat(&mut room, bytes),
+            Input::ZerosBut(values) => put(&mut room, values),
+            Input::Counting => count_up(&mut room),
         }
-    }
-    true
-}
-
-// Whether an output list still holds the numbers A5A5 that it was filled with.
-pub fn kept_list(room: &[u16]) -> bool {
-    for i in 0..room.len() {
-        if room[i] != 42405 {
-            return false;
-        }
-    }
-    true
-}
-
-// The numbers of a packed image.
-pub fn unpack(packed: &[u8], out: &mut [u16]) {
-    for i in 0..out.len() {
-        out[i] = group(packed, i);
+        room
     }
 }
 
-// The 12-bit group at a place: the first of its three bytes and the low half of the second, or the high half and the third.
-fn group(packed: &[u8], i: usize) -> u16 {
-    if 1152 < i {
-        return 0;
-    }
-    let at = i / 2 * 3;
-    if packed.len() <= at + 2 {
-        return 0;
-    }
-    let middle = wide(packed[at + 1]);
-    if i % 2 == 0 {
-        wide(packed[at]) + middle % 16 * 256
-    } else {
-        middle / 16 + wide(packed[at + 2]) * 16
-    }
-}
-
-// A byte as a number.
-pub fn wide(b: u8) -> u16
-    ensures { result < 256 }
+// Number k of a packed image, 12 bits each: a byte and the low half of the next, then the high half and the third byte.
+fn number(packed: &[u8], k: usize) -> u16
+    requires { k / 2 * 3 + 2 < length packed.now }
+    ensures { result ≡ number_at packed.now k }
 {
-    b as u16
-}
-
-// The bytes 1, 2, .., 32, again and again, in the first n places.
-pub fn count_up(room: &mut [u8], n: usize) {
-    for i in 0..room.len() {
-        let byte = if i < n { (i % 32 + 1) as u8 } else { room[i] };
-        room[i] = byte;
+    let at = k / 2 * 3;
+    let middle = u16::from(packed[at + 1]);
+    if k % 2 == 0 {
+        u16::from(packed[at]) + middle % 16 * 256
+    } else {
+        middle / 16 + u16::from(packed[at + 2]) * 16
     }
 }
 
-// Two bytes and a zero, again and again.
-pub fn repeat(room: &mut [u8], first: u8, second: u8) {
-    for i in 0..room.len() {
-        let byte = match i % 3 {
-            0 => first,
-            1 => second,
-            _ => 0,
-        };
-        room[i] = byte;
-    }
-}
-
-// The numbers 0, 1, .., 1152, again and again.
-pub fn ramp(room: &mut [u16]) {
-    for i in 0..room.len() {
-        room[i] = (i % 1153) as u16;
+// The numbers of a packed image, as many pairs as both have.
+pub fn unpack(packed: &[u8], out: &mut [u16])
+    ensures numbers { (k : ℕ) → k < unpacked_count (length packed.now) (length out.old) → slice_index out.new k ≡ number_at packed.now k }
+    ensures rest { (k : ℕ) → unpacked_count (length packed.now) (length out.old) ≤ k → slice_index out.new k ≡ slice_index out.old k }
+{
+    let count = (packed.len() / 3).min(out.len() / 2) * 2;
+    for (k, x) in out.iter_mut().enumerate() {
+        if k < count {
+            *x = number(packed, k);
+        }
     }
 }
 
 // How many places from the start on hold the same in both.
-pub fn agreeing(a: &[u16], b: &[u16]) -> usize {
-    for i in 0..a.len() {
-        if i < b.len() {
-            if a[i] != b[i] {
-                return i;
-            }
-        }
-    }
-    a.len()
+pub fn agreeing(a: &[u16], b: &[u16]) -> usize
+    ensures { result ≡ length (take_while (λ p. p.0 == p.1) (zip a.now b.now)) }
+{
+    a.iter().zip(b).take_while(|(x, y)| x == y).count()
 }

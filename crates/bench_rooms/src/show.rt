@@ -1,97 +1,111 @@
 // What is printed.
+ghost use Rattle.std.specs.Prelude.{◌<◌, IsOk};
+
+use crate::room::part;
 use answers::Answer;
+use std::fmt;
 
-// A text as it stands.
-pub fn text(s: &[u8]) {
-    io::write_all(1, s);
-}
+// Standard output by the kit's `io`, which stands on one function of C, `write`. Where that fails, the text is lost.
+#[derive(Clone, Copy)]
+pub struct Output;
 
-// A number, in decimal.
-pub fn number(v: usize) {
-    io::print_decimal(1, v as u64);
-}
-
-// A text, and the number and the place of an answer.
-pub fn answer(before: &[u8], answer: Answer) {
-    text(before);
-    number(answers::number(answer));
-    text(b" ");
-    number(answers::place(answer));
-}
-
-// An answer after a colon, and what became of the outputs.
-pub fn outcome(given: Answer, kept: bool) {
-    answer(b": ", given);
-    if kept {
-        text(b" kept\n");
-    } else {
-        text(b" changed\n");
+impl fmt::Write for Output {
+    fn write_str(&mut self, s: &str) -> fmt::Result
+        ensures { IsOk result }
+    {
+        io::write_all(1, s.as_bytes());
+        Ok(())
     }
 }
 
-// A byte as two hexadecimal digits, with a space after it.
-fn byte(b: u8) {
-    let high = b / 16;
-    let low = b % 16;
-    let first = if high < 10 { 48 + high } else { 55 + high };
-    let second = if low < 10 { 48 + low } else { 55 + low };
-    let digits = [first, second, 32];
-    text(&digits);
-}
+// The number and the place of an answer.
+#[derive(Clone, Copy)]
+pub struct Answered(pub Answer);
 
-// Bytes, each with a space after it.
-fn bytes(s: &[u8]) {
-    for i in 0..s.len() {
-        byte(s[i]);
+impl fmt::Display for Answered {
+    fn fmt<W: fmt::Write>(&self, f: &mut fmt::Formatter<W>) -> fmt::Result {
+        let number = answers::number(self.0);
+        let place = answers::place(self.0);
+        write!(f, "{number} {place}")
     }
 }
 
-// How many bytes from the start on repeat the first ones.
-fn repeating(s: &[u8], period: usize) -> usize {
-    for i in 0..s.len() {
-        if period <= i {
-            if s[i] != s[i - period] {
-                return i;
-            }
-        }
+// An answer, and what became of the outputs.
+#[derive(Clone, Copy)]
+pub struct Outcome {
+    pub answer: Answer,
+    pub kept: bool,
+}
+
+impl fmt::Display for Outcome {
+    fn fmt<W: fmt::Write>(&self, f: &mut fmt::Formatter<W>) -> fmt::Result {
+        let answered = Answered(self.answer);
+        let became = if self.kept { "kept" } else { "changed" };
+        write!(f, "{answered} {became}")
     }
-    s.len()
 }
 
 // The first bytes, and how often they stand there from the start on.
-pub fn periods(s: &[u8], period: usize) {
-    bytes(crate::room::part(s, period));
-    text(b"x ");
-    if 0 < period {
-        number(repeating(s, period) / period);
+#[derive(Clone, Copy)]
+pub struct Periods<'a> {
+    pub bytes: &'a [u8],
+    pub period: usize,
+    ghost nonzero: { 0 < period },
+}
+
+impl Periods<'_> {
+    fn count(&self) -> usize {
+        let first = part(self.bytes, self.period);
+        self.bytes
+            .chunks_exact(self.period)
+            .take_while(|bytes| *bytes == first)
+            .count()
     }
 }
 
-// A place and what stands there.
-fn term(i: usize, v: u16) {
-    text(b" ");
-    number(i);
-    text(b":");
-    number(v as usize);
+impl fmt::Display for Periods<'_> {
+    fn fmt<W: fmt::Write>(&self, f: &mut fmt::Formatter<W>) -> fmt::Result {
+        for byte in part(self.bytes, self.period) {
+            write!(f, "{byte:02X} ")?;
+        }
+        write!(f, "x {}", self.count())
+    }
 }
 
 // The first byte, how often it stands there from the start on, and the places of all that are not zero.
-pub fn places(s: &[u8]) {
-    periods(s, 1);
-    for i in 0..s.len() {
-        if s[i] != 0 {
-            term(i, crate::room::wide(s[i]));
+#[derive(Clone, Copy)]
+pub struct Places<'a>(pub &'a [u8]);
+
+impl fmt::Display for Places<'_> {
+    fn fmt<W: fmt::Write>(&self, f: &mut fmt::Formatter<W>) -> fmt::Result {
+        let periods = Periods {
+            bytes: self.0,
+            period: 1,
+        };
+        write!(f, "{periods}")?;
+        for (i, byte) in self.0.iter().enumerate() {
+            if *byte != 0 {
+                write!(f, " {i}:{byte}")?;
+            }
         }
+        Ok(())
     }
-    text(b"\n");
 }
 
 // The nonzero terms of a list, from a place on.
-pub fn terms(list: &[u16], from: usize) {
-    for i in from..list.len() {
-        if list[i] != 0 {
-            term(i, list[i]);
+#[derive(Clone, Copy)]
+pub struct Terms<'a> {
+    pub list: &'a [u16],
+    pub from: usize,
+}
+
+impl fmt::Display for Terms<'_> {
+    fn fmt<W: fmt::Write>(&self, f: &mut fmt::Formatter<W>) -> fmt::Result {
+        for (i, number) in self.list.iter().enumerate().skip(self.from) {
+            if *number != 0 {
+                write!(f, " {i}:{number}")?;
+            }
         }
+        Ok(())
     }
-    text(b"\n");
 }

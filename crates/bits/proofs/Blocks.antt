@@ -35,6 +35,11 @@ cut_first (A ∷ longer) B Bs n s g h =
     cut_past A (longer ++ B ∷ Bs) n s.0 ∙ cut_first longer B Bs n s.1 g h
     ∙ ap (λ Cs. B ∷ Cs) (sym (cut_past A (longer ++ B ∷ Bs) (n - B) (omega (arith, s.0))))
 
+-- it is one of whole words, and leaves the blocks of the bits after it
+pub first_fits : (longer : List ℕ) (B : ℕ) (Bs : List ℕ) (n : ℕ) → Short n longer → B ≤ n → 0 < B → B % 32 ≡ 0
+    → (cut (longer ++ B ∷ Bs) n ≡ B ∷ cut (longer ++ B ∷ Bs) (n - B)) × (0 < B) × (B ≤ n) × (B % 32 ≡ 0)
+first_fits longer B Bs n s h g w = (cut_first longer B Bs n s g h, g, h, w)
+
 -- no bits, no blocks
 pub blocks_none : blocks 0 ≡ []
 unfolding blocks block_lengths cut

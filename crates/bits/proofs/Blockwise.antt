@@ -63,12 +63,13 @@ module _ {step : ℕ → List ℕ → List ℕ} {takes : ℕ → ℕ} {whole xs 
       let all : n ≡ n - 0 = omega arith in
       record { upto = omega arith; words = refl; long = k; so_far = e ∙ ap (λ b. blockwise step takes (blocks b) xs) all }
 
-  -- a turn lends the places from o to e and has the next block done there
-  pub progress_turn : {at i o : ℕ} {l : List ℕ} → Progress step takes whole xs n m at i o l → (B i' e : ℕ) (part : List ℕ)
-      → blocks (n - at) ≡ B ∷ blocks (n - at - B) → B ≤ n - at → B % 32 ≡ 0 → i' ≡ i + takes B → o ≤ e → e ≤ length l
-      → part ≡ step B (take (takes B) (drop i xs)) → length part ≡ e - o → Progress step takes whole xs n m (at + B) i' e (put_mid o (e - o) l part)
+  -- a turn lends the places from o to e and has the next block done there, of b bits from t elements of xs
+  pub progress_turn : {at i o : ℕ} {l : List ℕ} → Progress step takes whole xs n m at i o l → (B i' e b t : ℕ) (part : List ℕ)
+      → blocks (n - at) ≡ B ∷ blocks (n - at - B) → B ≤ n - at → B % 32 ≡ 0 → i' ≡ i + takes B → o ≤ e → e ≤ length l → b ≡ B → t ≡ takes B
+      → part ≡ step b (take t (drop i xs)) → length part ≡ e - o → Progress step takes whole xs n m (at + B) i' e (put_mid o (e - o) l part)
   unfolding blockwise
-  progress_turn {at} {i} {o} {l} r B i' e part first fits words next h k p size =
+  progress_turn {at} {i} {o} {l} r B i' e b t part first fits words next h k whole_block taken done size =
+      let p = rw (whole_block, taken) at done in
       let left : n - at - B ≡ n - (at + B) = omega arith in
       let others : List ℕ → List ℕ = λ ys. blockwise step takes (blocks (n - (at + B))) ys in
       record {

@@ -2,10 +2,9 @@
 -- Assumes nothing.
 use mathlib.Core.Path.{◌≡◌, refl, sym, ap, ◌∙◌}
 use mathlib.Core.List.{List}
-use Prim.Native.Nat.{ℕ, zero, suc, ◌+◌, ◌-◌, ◌*◌, ◌/◌, ◌%◌, ◌^◌, ◌<◌}
+use Prim.Native.Nat.{ℕ, zero, suc, ◌+◌, ◌-◌, ◌*◌, ◌/◌, ◌%◌, ◌^◌, ◌≤◌, ◌<◌}
 use native.Mathlib.Decide.{dec_lt}
 use native.Mathlib.Nat.{mul_comm, mul_assoc, pow-suc, mod-lt, suc-add}
-use native.Mathlib.Numerals.{add-one}
 use native.Mathlib.Omega.{arith}
 use lib.ListN.{get_or}
 use lib.Pow.{shr-shr}
@@ -69,13 +68,13 @@ unfolding number
 number_cong zero f g e = refl
 number_cong (suc w) f g e = ap (λ x. x + 2 * number w (λ i. f (suc i))) (e 0 (omega arith)) ∙ ap (λ x. g 0 + 2 * x) (number_cong w (λ i. f (suc i)) (λ i. g (suc i)) (λ i h. e (suc i) (omega arith)))
 
--- k of w bits, from bit w - k on: with the bit before them they are k + 1
-pub number_more : (f : ℕ → ℕ) (w k : ℕ) → k < w → f (w - (k + 1)) + 2 * number k (λ b. f (w - k + b)) ≡ number (k + 1) (λ b. f (w - (k + 1) + b))
-number_more f w k h =
-    let z : w - (k + 1) ≡ w - (k + 1) + 0 = omega arith in
-    ap (λ i. f i + 2 * number k (λ b. f (w - k + b))) z
-    ∙ ap (λ x. f (w - (k + 1) + 0) + 2 * x) (number_cong k (λ b. f (w - k + b)) (λ b. f (w - (k + 1) + suc b)) (λ b l. ap f (omega arith)))
-    ∙ sym (ap (λ m. number m (λ b. f (w - (k + 1) + b))) (add-one k) ∙ number_suc (λ b. f (w - (k + 1) + b)) k)
+-- those of w bits from bit b on, and with the bit before them
+pub number_more : (f : ℕ → ℕ) (w b : ℕ) → 0 < b → b ≤ w → 2 * number (w - b) (λ i. f (b + i)) + f (b - 1) ≡ number (w - (b - 1)) (λ i. f (b - 1 + i))
+number_more f w b h l =
+    let one_more : w - (b - 1) ≡ suc (w - b) = omega arith in
+    let first : b - 1 ≡ b - 1 + 0 = omega arith in
+    let others = number_cong (w - b) (λ i. f (b + i)) (λ i. f (b - 1 + suc i)) (λ i k. ap f (omega arith)) in
+    rw one_more (omega (arith, ap f first, others, number_suc (λ i. f (b - 1 + i)) (w - b)))
 
 -- w bits make a number below 2^w
 pub number_lt : (w : ℕ) (f : ℕ → ℕ) → ((i : ℕ) → f i < 2) → number w f < 2 ^ w
@@ -136,11 +135,11 @@ module _ (bs : List ℕ) (bytes : Below 256 bs) where
       bit_little bs bytes 4 (4 * (t / 32)) (t % 32) (omega arith)
       ∙ ap (λ j. bit (get_or bs j 0) (t % 32 % 8)) e ∙ ap (bit (get_or bs (t / 8) 0)) f
 
-  -- and bit l of its 16-bit half word u is bit 16u + l
-  pub bit_of_half : (u l : ℕ) → l < 16 → (get_or bs (2 * u) 0 + 256 * get_or bs (2 * u + 1) 0) / 2 ^ l % 2 ≡ bit_of bs (16 * u + l)
+  -- and bit l of its 16-bit half word u, the number x, is bit 16u + l
+  pub bit_of_half : (u l x : ℕ) → l < 16 → x ≡ get_or bs (2 * u) 0 + 256 * get_or bs (2 * u + 1) 0 → x / 2 ^ l % 2 ≡ bit_of bs (16 * u + l)
   unfolding bit
-  bit_of_half u l h =
+  bit_of_half u l x h two =
       let e : 2 * u + l / 8 ≡ (16 * u + l) / 8 = omega arith in
       let f : l % 8 ≡ (16 * u + l) % 8 = omega arith in
-      ap (λ x. x / 2 ^ l % 2) (sym (little_two bs (2 * u))) ∙ bit_little bs bytes 2 (2 * u) l (omega arith)
+      ap (λ y. y / 2 ^ l % 2) (two ∙ sym (little_two bs (2 * u))) ∙ bit_little bs bytes 2 (2 * u) l (omega arith)
       ∙ ap (λ j. bit (get_or bs j 0) (l % 8)) e ∙ ap (bit (get_or bs ((16 * u + l) / 8) 0)) f ∙ sym (bit_of_byte (16 * u + l))

@@ -1,4 +1,5 @@
 // The listing: bytes to bits, block by block, and back. A block is 16 rows; row l holds bit l of each 16-bit half word in turn.
+// Bits stay bytes, with `Below` in contracts: they take part in sums, and the listing is said of numbers.
 #![tactic(auto)]
 
 ghost use Rattle.std.specs.Prelude.{◌≡◌, ◌∷◌, ◌+◌, ◌-◌, ◌*◌, ◌/◌, ◌%◌, ◌≤◌, ◌<◌, length, get_or};
@@ -13,36 +14,30 @@ fn first_block(left: usize) -> usize
     requires { (0 < left) × (left % 32 ≡ 0) }
     ensures { (blocks left ≡ result ∷ blocks (left - result)) × (0 < result) × (result ≤ left) × (result % 32 ≡ 0) }
 {
-    if 256 <= left {
-        return 256;
+    match left {
+        256.. => 256,
+        128.. => 128,
+        64.. => 64,
+        _ => 32,
     }
-    if 128 <= left {
-        return 128;
-    }
-    if 64 <= left {
-        return 64;
-    }
-    32
 }
 
 // Bit l of half word u.
-fn half_word_bit(bytes: &[u8], u: usize, l: u16) -> u8
+fn half_word_bit(bytes: &[u8], u: usize, l: usize) -> u8
     requires { (2 * u + 1 < length bytes.now) × (l < 16) }
     ensures { result ≡ bit_of bytes.now (16 * u + l) }
 {
-    let low = bytes[2 * u] as u16;
-    let high = bytes[2 * u + 1] as u16;
-    (((low + 256 * high) >> l) % 2) as u8
+    let half_word = u16::from_le_bytes([bytes[2 * u], bytes[2 * u + 1]]);
+    ((half_word >> l) % 2) as u8
 }
 
 // Bit l of each half word.
-fn list_row(bytes: &[u8], l: u16, row: &mut [u8])
+fn list_row(bytes: &[u8], l: usize, row: &mut [u8])
     requires { (2 * length row.old ≤ length bytes.now) × (l < 16) }
     ensures { row.new ≡ tab (length row.old) (λ u. bit_of bytes.now (16 * u + l)) }
 {
-    let half_words = row.len();
-    for u in 0..half_words {
-        row[u] = half_word_bit(bytes, u, l);
+    for (u, bit) in row.iter_mut().enumerate() {
+        *bit = half_word_bit(bytes, u, l);
     }
 }
 
@@ -52,11 +47,9 @@ fn list_block(bytes: &[u8], bits: &mut [u8])
     ensures { bits.new ≡ listed_block (length bits.old) bytes.now }
 {
     let width = bits.len() / 16;
-    let mut at = 0;
-    for l in 0..16u16 {
-        let end = at + width;
-        list_row(bytes, l, &mut bits[at..end]);
-        at = end;
+    // By places and not by `chunks_exact_mut`: of what is written through that, a proof learns nothing.
+    for l in 0..16 {
+        list_row(bytes, l, &mut bits[l * width..(l + 1) * width]);
     }
 }
 
@@ -67,6 +60,7 @@ pub fn list(bytes: &[u8], bits: &mut [u8])
 {
     let n = bits.len();
     let mut at = 0;
+    // The width changes from block to block, and no range steps so: the place goes on by hand.
     while at < n {
         let end = at + first_block(n - at);
         list_block(&bytes[at / 8..end / 8], &mut bits[at..end]);
@@ -79,11 +73,10 @@ fn gather(bits: &[u8], at: usize, stride: usize) -> u8
     requires { (at + 7 * stride < length bits.now) × Below 2 bits.now }
     ensures { result ≡ number 8 (λ b. get_or bits.now (at + b * stride) 0) }
 {
+    // A loop and no `fold`: that the byte fits is not found of a closure.
     let mut byte = 0;
-    let mut from = at + 8 * stride;
-    for _ in 0..8u8 {
-        from -= stride;
-        byte = 2 * byte + bits[from];
+    for b in (0..8).rev() {
+        byte = 2 * byte + bits[at + b * stride];
     }
     byte
 }
@@ -94,6 +87,7 @@ fn unlist_block(bits: &[u8], bytes: &mut [u8])
     ensures { bytes.new ≡ unlisted_block (length bits.now) bits.now }
 {
     let stride = bits.len() / 16;
+    // A turn writes two bytes: with one byte a turn, a block of 256 bits took more than twice as long.
     for u in 0..stride {
         bytes[2 * u] = gather(bits, u, stride);
         bytes[2 * u + 1] = gather(bits, 8 * stride + u, stride);
@@ -107,6 +101,7 @@ pub fn unlist(bits: &[u8], bytes: &mut [u8])
 {
     let n = bits.len();
     let mut at = 0;
+    // As in `list`. The buffer that is written is the other one, so one function over the step of a block would be no shorter.
     while at < n {
         let end = at + first_block(n - at);
         unlist_block(&bits[at..end], &mut bytes[at / 8..end / 8]);

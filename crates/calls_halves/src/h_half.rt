@@ -1,21 +1,10 @@
 // The part of a private key that is the packed image of 1/h.
 ghost use Rattle.calls_halves.specs.Halves.{HHalf};
 
-use answers::SetChoice;
+use crate::halves::halves;
 
-// The empty part where the set is unknown or the key has another length. The groups are not looked at.
 pub fn h_half(set: usize, key: &[u8]) -> &[u8]
     ensures { HHalf set key.now key.entry.ref_ptr result.now result.ref_ptr }
 {
-    match answers::set_of(set) {
-        SetChoice::Unknown => &key[0..0],
-        SetChoice::Known(s) => {
-            let middle = s.packed;
-            if key.len() == s.private {
-                &key[middle..]
-            } else {
-                &key[0..0]
-            }
-        }
-    }
+    halves(set, key).1
 }

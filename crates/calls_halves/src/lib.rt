@@ -3,3 +3,4 @@
 
 pub mod f_half;
 pub mod h_half;
+mod halves;

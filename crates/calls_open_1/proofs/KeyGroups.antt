@@ -35,12 +35,15 @@ module _ (k : ℕ) (private : List ℕ) (long : length private ≡ 3 * k + 3 * k
       ap groups (sym (take-append-drop (length private / 2) private))
       ∙ groups_append k (take (length private / 2) private) (drop (length private / 2) private) bytes_first
 
+  pub flatten_halves : (ls : List (List ℕ)) → flatten (groups (first_half private) ∷ groups (second_half private) ∷ ls) ≡ flatten (groups private ∷ ls)
+  unfolding flatten
+  flatten_halves ls =
+      sym (append_assoc (groups (first_half private)) (groups (second_half private)) (flatten ls)) ∙ ap (λ l. l ++ flatten ls) (sym groups_halves)
+
   pub through_halves : (bad : ℕ → Bool) (ls : List (List ℕ))
       → first_through bad (groups (first_half private) ∷ groups (second_half private) ∷ ls) ≡ first_through bad (groups private ∷ ls)
-  unfolding first_through flatten
-  through_halves bad ls =
-      ap (first_where bad)
-      (sym (append_assoc (groups (first_half private)) (groups (second_half private)) (flatten ls)) ∙ ap (λ l. l ++ flatten ls) (sym groups_halves))
+  unfolding first_through
+  through_halves bad ls = ap (first_where bad) (flatten_halves ls)
 
   -- where no group of the key and of what follows it is too large, each half is residues
   pub halves_residues : (ls : List (List ℕ)) → length (flatten (groups private ∷ ls)) ≤ first_through too_large (groups private ∷ ls)

@@ -2,7 +2,7 @@
 -- Assumes nothing: these are definitions.
 use Rattle.std.specs.Prelude.{◌&&◌, List, [], ◌∷◌, ◌≡◌, ℕ, eqb, length}
 use Rattle.marks.specs.Marks.{no_mark}
-use Rattle.answers.specs.declared.Answer.{Answer}
+use Rattle.answers.specs.Answers.{Answer}
 use Rattle.answers.specs.Replies.{Reply, reply, leaves, Outcome}
 use Rattle.answers.specs.Tests.{in_order, at_first}
 use Rattle.stages.specs.Opening.{opened_message}

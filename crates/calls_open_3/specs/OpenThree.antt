@@ -3,7 +3,7 @@
 use Rattle.std.specs.Prelude.{cond, ◌&&◌, List, [], ◌∷◌, ◌≡◌, ℕ, eqb, length}
 use Rattle.lists.specs.Every.{equal}
 use Rattle.packing.specs.Packing.{groups}
-use Rattle.answers.specs.declared.Answer.{Answer}
+use Rattle.answers.specs.Answers.{Answer}
 use Rattle.answers.specs.Replies.{Reply, reply, leaves, Outcome}
 use Rattle.answers.specs.Tests.{in_order, in_range}
 use Rattle.stages.specs.Sealing.{key_bytes, r_image}

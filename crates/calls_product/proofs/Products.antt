@@ -6,13 +6,12 @@ use Prim.Native.Nat.{ℕ, ◌≤◌}
 use native.Mathlib.Omega.{arith}
 use lib.ListN.{length}
 use borrow.Author.Tests.{eq-eqb, le-ltb}
+use Rattle.std.proofs.Common.{Some}
 use Rattle.lists.specs.First.{first_through}
 use Rattle.residue.specs.Large.{too_large, first_large}
 use Rattle.residue.specs.Residues.{Residues}
-use Rattle.answers.specs.declared.Answer.{Answer}
 use Rattle.answers.specs.declared.Parameters.{Parameters}
-use Rattle.answers.specs.declared.SetChoice.TheVariants.{Known}
-use Rattle.answers.specs.Answers.{number_of, place_of}
+use Rattle.answers.specs.Answers.{Answer, number_of, place_of}
 use Rattle.answers.specs.Replies.{Reply, reply, leaves}
 use Rattle.answers.specs.Sets.{set_of, for_set}
 use Rattle.answers.specs.Tests.{in_order, at_first, in_range}
@@ -20,7 +19,7 @@ use Rattle.lists.proofs.FirstLaws.{length_through, length_one, through_past, thr
 use Rattle.residue.proofs.LargeLaws.{none_large}
 use Rattle.calls_product.specs.Product.{product_reply, product_of, Product}
 
-module _ (set : ℕ) (s : Parameters) (known : set_of set ≡ Known s) (a b : List ℕ) (ra : Residues s.n a) (rb : Residues s.n b) where
+module _ (set : ℕ) (s : Parameters) (known : set_of set ≡ Some s) (a b : List ℕ) (ra : Residues s.n a) (rb : Residues s.n b) where
   none_too_large : length (flatten (a ∷ b ∷ [])) ≤ first_through too_large (a ∷ b ∷ [])
   unfolding first_large
   none_too_large =

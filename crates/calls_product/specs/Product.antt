@@ -3,7 +3,7 @@
 use Rattle.std.specs.Prelude.{◌&&◌, List, [], ◌∷◌, ◌≡◌, ℕ, eqb, length}
 use Rattle.algebra.specs.Numbers.{residues}
 use Rattle.algebra.specs.Product.{product}
-use Rattle.answers.specs.declared.Answer.{Answer}
+use Rattle.answers.specs.Answers.{Answer}
 use Rattle.answers.specs.Replies.{Reply, reply, leaves, Outcome}
 use Rattle.answers.specs.Sets.{set_of, for_set}
 use Rattle.answers.specs.Tests.{in_order, in_range}

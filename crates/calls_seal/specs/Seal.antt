@@ -2,7 +2,7 @@
 -- Assumes nothing: these are definitions.
 use Rattle.std.specs.Prelude.{◌&&◌, List, [], ◌∷◌, ◌≡◌, ℕ, eqb, length}
 use Rattle.packing.specs.Packing.{groups}
-use Rattle.answers.specs.declared.Answer.{Answer}
+use Rattle.answers.specs.Answers.{Answer}
 use Rattle.answers.specs.Replies.{Reply, reply, leaves, Outcome}
 use Rattle.answers.specs.Sets.{set_of, for_set}
 use Rattle.answers.specs.Tests.{in_order, in_range}

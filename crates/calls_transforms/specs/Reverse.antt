@@ -2,7 +2,7 @@
 -- Assumes nothing: these are definitions.
 use Rattle.std.specs.Prelude.{List, [], ◌≡◌, ℕ, length}
 use Rattle.algebra.specs.Transform.{reverse}
-use Rattle.answers.specs.declared.Answer.{Answer}
+use Rattle.answers.specs.Answers.{Answer}
 use Rattle.answers.specs.Replies.{leaves, Outcome}
 use Rattle.answers.specs.Sets.{set_of, for_set}
 use Rattle.calls_transforms.specs.Transform.{list_reply}

@@ -12,7 +12,7 @@ use Rattle.small.specs.Sampling.{first_half, second_half}
 use Rattle.encoding.specs.Encoding.{encoded}
 use Rattle.packing.specs.Packing.{packed, groups}
 use Rattle.answers.specs.declared.Parameters.{Parameters}
-use Rattle.answers.specs.declared.SetChoice.TheVariants.{Known}
+use Rattle.std.specs.Prelude.{Some}
 use Rattle.answers.specs.Answers.{number_of}
 use Rattle.answers.specs.Replies.{leaves}
 use Rattle.answers.specs.Sets.{set_of}
@@ -35,7 +35,7 @@ use Rattle.demands.proofs.Answered.{outcome_done}
 use Rattle.demands.proofs.Images.{set_root}
 use Rattle.demands.proofs.Stages.{both_clear, open_one_zero, open_two_zero, open_three_zero}
 
-module _ (set : ℕ) (s : Parameters) (known : set_of set ≡ Known s) {seed public private : List ℕ} (p : IsPair s seed public private) where
+module _ (set : ℕ) (s : Parameters) (known : set_of set ≡ Some s) {seed public private : List ℕ} (p : IsPair s seed public private) where
   -- h = n/2, the root w, and the facts of the set
   abbrev h : ℕ
   h = s.half

@@ -12,7 +12,7 @@ use borrow.Author.Tests.{eqb-false}
 use Rattle.lists.specs.First.{first_through}
 use Rattle.algebra.specs.SlotBySlot.{is_zero}
 use Rattle.answers.specs.declared.Parameters.{Parameters}
-use Rattle.answers.specs.declared.SetChoice.TheVariants.{Known}
+use Rattle.std.specs.Prelude.{Some}
 use Rattle.answers.specs.Replies.{reply}
 use Rattle.answers.specs.Sets.{set_of}
 use Rattle.stages.specs.Images.{tripled, plus_one}
@@ -67,11 +67,11 @@ pub record IsSealing (s : Parameters) (public message hblock gblock cipher key :
 
 module _ {set : ℕ} where
   -- the set of a pair made here is known
-  pub made_known : {seed public private : List ℕ} → Made set seed public private → (s : Parameters) × (set_of set ≡ Known s)
+  pub made_known : {seed public private : List ℕ} → Made set seed public private → (s : Parameters) × (set_of set ≡ Some s)
   unfolding Make make_reply
   made_known m = is_known set _ _ (sym m.call.number ∙ m.done)
 
-  module _ (s : Parameters) (known : set_of set ≡ Known s) where
+  module _ (s : Parameters) (known : set_of set ≡ Some s) where
     pub made_pair : {seed public private : List ℕ} → Made set seed public private → IsPair s seed public private
     unfolding Make make_reply public_of private_of
     made_pair {seed} m =

@@ -10,10 +10,9 @@ use native.Mathlib.Omega.{arith}
 use lib.ListN.{length}
 use borrow.Author.Tests.{eq-eqb, lt-ltb}
 use Rattle.lists.specs.First.{first_through}
-use Rattle.answers.specs.declared.Answer.{Answer}
+use Rattle.answers.specs.Answers.{Answer}
 use Rattle.answers.specs.declared.Parameters.{Parameters}
-use Rattle.answers.specs.declared.SetChoice.{SetChoice}
-use Rattle.answers.specs.declared.SetChoice.TheVariants.{Known, Unknown}
+use Rattle.std.specs.Prelude.{Option, Some, None}
 use Rattle.answers.specs.Answers.{number_of}
 use Rattle.answers.specs.Replies.{Reply, reply, leaves, Outcome}
 use Rattle.answers.specs.Sets.{set_of, for_set}
@@ -32,19 +31,19 @@ module _ (set : ℕ) (fits : Parameters → Bool) (rest : Parameters → Reply) 
   right_by s false e h = absurd (omega (arith, h))
 
   -- of a known set: the lengths are right, and nothing else refuses
-  pub passed : (s : Parameters) → set_of set ≡ Known s → (in_order set fits rest).number ≡ 0 → (fits s ≡ true) × ((rest s).number ≡ 0)
+  pub passed : (s : Parameters) → set_of set ≡ Some s → (in_order set fits rest).number ≡ 0 → (fits s ≡ true) × ((rest s).number ≡ 0)
   unfolding in_order for_set
   passed s e h =
       right_by s (fits s) refl (subst (λ c. (for_set c (reply 1 0) (λ s. cond (fits s) (rest s) (reply 2 0))).number ≡ 0) e h)
 
   -- and the set is known
-  known_by : (c : SetChoice) → set_of set ≡ c → (for_set c (reply 1 0) (λ s. cond (fits s) (rest s) (reply 2 0))).number ≡ 0
-      → (s : Parameters) × (set_of set ≡ Known s)
+  known_by : (c : Option Parameters) → set_of set ≡ c → (for_set c (reply 1 0) (λ s. cond (fits s) (rest s) (reply 2 0))).number ≡ 0
+      → (s : Parameters) × (set_of set ≡ Some s)
   unfolding for_set
-  known_by Unknown e h = absurd (omega (arith, h))
-  known_by (Known s) e h = (s, e)
+  known_by None e h = absurd (omega (arith, h))
+  known_by (Some s) e h = (s, e)
 
-  pub is_known : (in_order set fits rest).number ≡ 0 → (s : Parameters) × (set_of set ≡ Known s)
+  pub is_known : (in_order set fits rest).number ≡ 0 → (s : Parameters) × (set_of set ≡ Some s)
   unfolding in_order
   is_known = known_by (set_of set) refl
 

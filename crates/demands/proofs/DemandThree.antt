@@ -7,7 +7,7 @@ use native.Mathlib.Omega.{arith}
 use Rattle.lists.specs.Below.{Below}
 use Rattle.encoding.specs.Encoding.{encoded}
 use Rattle.answers.specs.declared.Parameters.{Parameters}
-use Rattle.answers.specs.declared.SetChoice.TheVariants.{Known}
+use Rattle.std.specs.Prelude.{Some}
 use Rattle.answers.specs.Answers.{number_of}
 use Rattle.answers.specs.Sets.{set_of}
 use Rattle.stages.specs.Making.{small_f, small_g}
@@ -20,12 +20,12 @@ use Rattle.demands.proofs.AgreementLaws.{made_known, made_pair, sealed_text}
 use Rattle.demands.proofs.Agreed.{agreed, agreed_once}
 
 -- the half that a known set decides
-half_is : (set : ℕ) (s : Parameters) → set_of set ≡ Known s → set / 2 ≡ s.half
+half_is : (set : ℕ) (s : Parameters) → set_of set ≡ Some s → set / 2 ≡ s.half
 half_is set s known = let i = known_set set s known in omega (arith, i.size, i.whole)
 
 module _ {set : ℕ} {seed public private : List ℕ} (made : Made set seed public private) where
   -- what is worked out, with the half that the set decides
-  with_half : (s : Parameters) → set_of set ≡ Known s → (message hblock gblock : List ℕ) → InRange (worked_out set seed message hblock gblock)
+  with_half : (s : Parameters) → set_of set ≡ Some s → (message hblock gblock : List ℕ) → InRange (worked_out set seed message hblock gblock)
       → InRange (opened s.half (small_f seed) (small_g seed) (small_r hblock) (encoded message gblock))
   unfolding worked_out
   with_half s known message hblock gblock =

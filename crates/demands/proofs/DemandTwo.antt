@@ -12,7 +12,7 @@ use Rattle.algebra.specs.Product.{product}
 use Rattle.algebra.specs.Roots.{IsRoot}
 use Rattle.algebra.specs.SlotBySlot.{plus, times}
 use Rattle.algebra.specs.Transform.{image, reverse}
-use Rattle.answers.specs.declared.Answer.{Answer}
+use Rattle.answers.specs.Answers.{Answer}
 use Rattle.answers.specs.Answers.{number_of}
 use Rattle.stages.specs.Images.{image_of}
 use Rattle.stages.specs.Opening.{opened_message}

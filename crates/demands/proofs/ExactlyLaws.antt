@@ -15,10 +15,9 @@ use Rattle.residue.specs.Large.{too_large}
 use Rattle.algebra.specs.SlotBySlot.{is_zero}
 use Rattle.marks.specs.Marks.{no_mark}
 use Rattle.packing.specs.Packing.{groups}
-use Rattle.answers.specs.declared.Answer.{Answer}
+use Rattle.answers.specs.Answers.{Answer}
 use Rattle.answers.specs.declared.Parameters.{Parameters}
-use Rattle.answers.specs.declared.SetChoice.{SetChoice}
-use Rattle.answers.specs.declared.SetChoice.TheVariants.{Known, Unknown}
+use Rattle.std.specs.Prelude.{Option, Some as Known, None}
 use Rattle.answers.specs.Answers.{number_of, place_of}
 use Rattle.answers.specs.Replies.{Reply, reply, Outcome}
 use Rattle.answers.specs.Sets.{parameters_of, set_of, for_set}
@@ -74,7 +73,7 @@ unfolding set_of parameters_of
 known_numbers set s = by (eqb set 576) (eqb set 1152) refl refl
   where
     by : (a b : Bool) → eqb set 576 ≡ a → eqb set 1152 ≡ b
-        → cond a (Known (parameters_of 576 49 2)) (cond b (Known (parameters_of 1152 7 1)) Unknown) ≡ Known s
+        → cond a (Known (parameters_of 576 49 2)) (cond b (Known (parameters_of 1152 7 1)) None) ≡ Known s
         → (s ≡ parameters_of set s.root s.step) × ¬ ((set ≢ 576) × (set ≢ 1152))
     by true b ea eb e =
         let p : parameters_of 576 49 2 ≡ s = cc in
@@ -85,12 +84,12 @@ known_numbers set s = by (eqb set 576) (eqb set 1152) refl refl
     by false false ea eb e = let z : ◌≡◌ {A = ℕ} 0 1 = cc in absurd (omega arith)
 
 -- and unknown where it is neither
-pub unknown_numbers : (set : ℕ) → set_of set ≡ Unknown → (set ≢ 576) × (set ≢ 1152)
+pub unknown_numbers : (set : ℕ) → set_of set ≡ None → (set ≢ 576) × (set ≢ 1152)
 unfolding set_of
 unknown_numbers set = by (eqb set 576) (eqb set 1152) refl refl
   where
     by : (a b : Bool) → eqb set 576 ≡ a → eqb set 1152 ≡ b
-        → cond a (Known (parameters_of 576 49 2)) (cond b (Known (parameters_of 1152 7 1)) Unknown) ≡ Unknown → (set ≢ 576) × (set ≢ 1152)
+        → cond a (Known (parameters_of 576 49 2)) (cond b (Known (parameters_of 1152 7 1)) None) ≡ None → (set ≢ 576) × (set ≢ 1152)
     by true b ea eb e = let z : ◌≡◌ {A = ℕ} 0 1 = cc in absurd (omega arith)
     by false true ea eb e = let z : ◌≡◌ {A = ℕ} 0 1 = cc in absurd (omega arith)
     by false false ea eb e = (eqb-false set 576 ea, eqb-false set 1152 eb)
@@ -131,9 +130,9 @@ pub in_order_lem : (set : ℕ) (fits : Parameters → Bool) (rest : Parameters �
 unfolding in_order for_set
 in_order_lem set fits rest buffers rows test after = (by (set_of set) refl).says
   where
-    by : (c : SetChoice) → set_of set ≡ c
+    by : (c : Option Parameters) → set_of set ≡ c
         → Settled 0 (unknown_set set ∷ wrong_length buffers ∷ rows) (for_set c (reply 1 0) (λ s. cond (fits s) (rest s) (reply 2 0)))
-    by Unknown e = here 0 (unknown_set set) (wrong_length buffers ∷ rows) (omega arith) 0 (unknown_numbers set e) refl
+    by None e = here 0 (unknown_set set) (wrong_length buffers ∷ rows) (omega arith) 0 (unknown_numbers set e) refl
     by (Known s) e =
         let k = known_numbers set s e in
         past 0 (unknown_set set) (wrong_length buffers ∷ rows) (omega arith) k.1

@@ -5,7 +5,7 @@ use mathlib.Core.Path.{refl}
 use Prim.Native.Nat.{ℕ, ◌+◌, ◌*◌, ◌/◌}
 use lib.ListN.{length}
 use Rattle.packing.specs.Packing.{groups}
-use Rattle.answers.specs.declared.Answer.{Answer}
+use Rattle.answers.specs.Answers.{Answer}
 use Rattle.answers.specs.Answers.{number_of, place_of}
 use Rattle.answers.specs.Replies.{reply}
 use Rattle.answers.specs.Sets.{parameters_of}

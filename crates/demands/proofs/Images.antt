@@ -13,8 +13,7 @@ use Rattle.algebra.specs.Roots.{IsRoot}
 use Rattle.algebra.specs.SlotBySlot.{times}
 use Rattle.algebra.specs.Transform.{image, reverse}
 use Rattle.answers.specs.declared.Parameters.{Parameters}
-use Rattle.answers.specs.declared.SetChoice.{SetChoice}
-use Rattle.answers.specs.declared.SetChoice.TheVariants.{Known, Unknown}
+use Rattle.std.specs.Prelude.{Option, Some, None}
 use Rattle.answers.specs.Sets.{set_of, for_set}
 use Rattle.calls_product.specs.Product.{product_of}
 use Rattle.calls_transforms.specs.Transform.{transform_of}
@@ -29,7 +28,7 @@ pub set_root : {set : ℕ} {s : Parameters} → IsSet set s → IsRoot s.half s.
 set_root {s = s} i = record { log = s.step; turns = i.turns; root = i.root }
 
 -- "order of w": 3n, and no smaller power of the root is 1
-pub set_order : (set : ℕ) (s : Parameters) → set_of set ≡ Known s
+pub set_order : (set : ℕ) (s : Parameters) → set_of set ≡ Some s
     → (powq s.root (3 * s.n) ≡ 1) × ((k : ℕ) → 0 < k → k < 3 * s.n → powq s.root k ≢ 1)
 set_order set s e =
     let i = known_set set s e in
@@ -48,12 +47,12 @@ pub product_by_images : (set : ℕ) (a b : List ℕ) → Residues set a → Resi
 unfolding reverse_of times_of transform_of product_of for_set
 product_by_images set a b ra rb = by (set_of set) (known_set set)
   where
-    by : (c : SetChoice) → ((s : Parameters) → c ≡ Known s → IsSet set s)
+    by : (c : Option Parameters) → ((s : Parameters) → c ≡ Some s → IsSet set s)
         → for_set c [] (λ s. reverse s.half s.root
         (for_set c [] (λ s. times s.slots (for_set c [] (λ s. image s.half s.root a)) (for_set c [] (λ s. image s.half s.root b)))))
         ≡ for_set c [] (λ s. product residues s.half a b)
-    by Unknown known = refl
-    by (Known s) known =
+    by None known = refl
+    by (Some s) known =
         let i = known s refl in
         ap (λ n. reverse s.half s.root (times n (image s.half s.root a) (image s.half s.root b))) i.slots
         ∙ reverse_times s.half s.root (set_root i) a b (set_residues i ra) (set_residues i rb)

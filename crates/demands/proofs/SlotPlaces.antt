@@ -8,8 +8,7 @@ use lib.ListN.{length, get_or, get_or-append}
 use lib.Seq.{get_or-append-add}
 use Rattle.algebra.specs.Transform.{image}
 use Rattle.answers.specs.declared.Parameters.{Parameters}
-use Rattle.answers.specs.declared.SetChoice.{SetChoice}
-use Rattle.answers.specs.declared.SetChoice.TheVariants.{Known, Unknown}
+use Rattle.std.specs.Prelude.{Option, Some, None}
 use Rattle.answers.specs.Sets.{set_of}
 use Rattle.stages.specs.Images.{image_of}
 use Rattle.stages.specs.Making.{small_f, f_image}
@@ -21,7 +20,7 @@ use Rattle.demands.specs.TableOwn.{slots_of_f, slots_of_g}
 use Rattle.demands.proofs.ExactlyLaws.{unknown_numbers}
 
 -- f has n slots
-f_long : (set : ℕ) (seed : List ℕ) (s : Parameters) → set_of set ≡ Known s → length (slots_of_f set seed) ≡ set
+f_long : (set : ℕ) (seed : List ℕ) (s : Parameters) → set_of set ≡ Some s → length (slots_of_f set seed) ≡ set
 unfolding slots_of_f f_image image_of image
 f_long set seed s e =
     let i = known_set set s e in
@@ -34,11 +33,11 @@ pub make_place : (set : ℕ) (seed : List ℕ) (k : ℕ) → ¬ (unknown_set set
 unfolding flatten
 make_place set seed k known = by (set_of set) refl
   where
-    by : (c : SetChoice) → set_of set ≡ c
+    by : (c : Option Parameters) → set_of set ≡ c
         → (k < set → get_or (slots_of_f set seed ++ (slots_of_g set seed ++ [])) k 0 ≡ get_or (slots_of_f set seed) k 0)
         × (get_or (slots_of_f set seed ++ (slots_of_g set seed ++ [])) (set + k) 0 ≡ get_or (slots_of_g set seed) k 0)
-    by Unknown e = absurd (known (unknown_numbers set e))
-    by (Known s) e =
+    by None e = absurd (known (unknown_numbers set e))
+    by (Some s) e =
         let l = f_long set seed s e in (
           λ h. get_or-append (slots_of_f set seed) _ 0 k (omega (arith, h, l)),
           ap (λ n. get_or (slots_of_f set seed ++ (slots_of_g set seed ++ [])) (n + k) 0) (sym l)

@@ -15,7 +15,7 @@ use Rattle.marks.specs.Marks.{no_mark}
 use Rattle.small.specs.Sampling.{first_half, second_half}
 use Rattle.packing.specs.Packing.{groups}
 use Rattle.answers.specs.declared.Parameters.{Parameters}
-use Rattle.answers.specs.declared.SetChoice.TheVariants.{Known}
+use Rattle.std.specs.Prelude.{Some}
 use Rattle.answers.specs.Replies.{reply}
 use Rattle.answers.specs.Sets.{set_of, for_set}
 use Rattle.answers.specs.Tests.{in_order, at_first, in_range}
@@ -64,7 +64,7 @@ both_clear k private cipher long rf rk rc =
 
 -- ---- the three stages
 
-module _ (set : ℕ) (s : Parameters) (known : set_of set ≡ Known s) where
+module _ (set : ℕ) (s : Parameters) (known : set_of set ≡ Some s) where
   pub open_one_zero : (private cipher : List ℕ) (marks image : ℕ) → length private ≡ s.private → length cipher ≡ s.packed → marks ≡ s.n → image ≡ s.packed
       → length (flatten (groups private ∷ groups cipher ∷ [])) ≤ first_through too_large (groups private ∷ groups cipher ∷ [])
       → open_one_reply set private cipher marks image ≡ reply 0 0

@@ -3,7 +3,7 @@
 use mathlib.Core.List.{List}
 use mathlib.Core.Path.{◌≡◌, sym, ◌∙◌}
 use Prim.Native.Nat.{ℕ}
-use Rattle.answers.specs.declared.Answer.{Answer}
+use Rattle.answers.specs.Answers.{Answer}
 use Rattle.calls_product.specs.Product.{Product}
 use Rattle.calls_transforms.specs.Transform.{Transform}
 use Rattle.calls_transforms.specs.Reverse.{Reverse}

@@ -2,7 +2,7 @@
 -- Assumes nothing: these are definitions.
 use Rattle.std.specs.Prelude.{List, ◌≡◌, ℕ, ◌/◌, ℤ}
 use Rattle.encoding.specs.Encoding.{encoded}
-use Rattle.answers.specs.declared.Answer.{Answer}
+use Rattle.answers.specs.Answers.{Answer}
 use Rattle.answers.specs.Answers.{number_of}
 use Rattle.stages.specs.Making.{small_f, small_g}
 use Rattle.stages.specs.Sealing.{small_r}

@@ -1,7 +1,7 @@
 -- An opening: the three stages in turn, by calls that met their promises.
 -- Assumes nothing: this is a definition.
 use Rattle.std.specs.Prelude.{List, ◌≡◌, ℕ, ◌*◌, ◌/◌, length}
-use Rattle.answers.specs.declared.Answer.{Answer}
+use Rattle.answers.specs.Answers.{Answer}
 use Rattle.calls_open_1.specs.OpenOne.{OpenOne}
 use Rattle.calls_open_2.specs.OpenTwo.{OpenTwo}
 use Rattle.calls_open_3.specs.OpenThree.{OpenThree}

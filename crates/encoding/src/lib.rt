@@ -1,4 +1,5 @@
 // A message as a small polynomial, and back. Coefficients are written as residues, -1 as 3456, and read as marks.
+// The rooms for bits are lent, as `bench_steps` has them from C.
 #![tactic(auto)]
 
 ghost use Rattle.std.specs.Prelude.{map, ◌≡◌, ◌+◌, ◌*◌, ◌%◌, ◌<◌, length, get_or};
@@ -8,10 +9,12 @@ ghost use Rattle.residue.specs.Signed.{residue_of};
 ghost use Rattle.marks.specs.Marks.{of_mark};
 ghost use Rattle.encoding.specs.Encoding.{encode_bit, decode_bit, encoded, decoded};
 
+use residue::Residue;
+
 // (message XOR first) - second, of three bits.
-fn encode_bit(message: u8, first: u8, second: u8) -> u16
+fn encode_bit(message: u8, first: u8, second: u8) -> Residue
     requires { (message < 2) × (first < 2) × (second < 2) }
-    ensures { result ≡ residue_of (encode_bit message first second) }
+    ensures { result.value ≡ residue_of (encode_bit message first second) }
 {
     small::difference(message ^ first, second)
 }
@@ -30,8 +33,8 @@ fn encode_bits(bits: &[u8], halves: &[u8], coefficients: &mut [u16])
     ensures { coefficients.new ≡ tab (length coefficients.old) (λ i. residue_of (encode_bit (get_or bits.now i 0) (get_or halves.now i 0) (get_or halves.now (length coefficients.old + i) 0))) }
 {
     let n = coefficients.len();
-    for i in 0..n {
-        coefficients[i] = encode_bit(bits[i], halves[i], halves[n + i]);
+    for (i, coefficient) in coefficients.iter_mut().enumerate() {
+        *coefficient = encode_bit(bits[i], halves[i], halves[n + i]).value;
     }
 }
 
@@ -58,8 +61,8 @@ fn decode_bits(marks: &[u8], halves: &[u8], bits: &mut [u8])
     ensures { bits.new ≡ tab (length bits.old) (λ i. decode_bit (of_mark (get_or marks.now i 0)) (get_or halves.now i 0) (get_or halves.now (length bits.old + i) 0)) }
 {
     let n = bits.len();
-    for i in 0..n {
-        bits[i] = decode_bit(marks[i], halves[i], halves[n + i]);
+    for (i, bit) in bits.iter_mut().enumerate() {
+        *bit = decode_bit(marks[i], halves[i], halves[n + i]);
     }
 }
 

@@ -10,8 +10,8 @@ use lib.ListN.{length, take, drop, length-drop}
 use lib.Seq.{length-take-le, take-length}
 use borrow.Author.Tests.{eqb-true}
 use Rattle.small.specs.Sampling.{first_half, second_half}
-use Rattle.answers.specs.declared.SetChoice.{SetChoice}
-use Rattle.answers.specs.declared.SetChoice.TheVariants.{Known, Unknown}
+use Rattle.std.specs.Prelude.{Option, Some, None}
+use Rattle.answers.specs.declared.Parameters.{Parameters}
 use Rattle.answers.specs.Sets.{set_of, for_set}
 use Rattle.calls_halves.specs.Halves.{handed, further}
 use Rattle.answers.proofs.SetLaws.{known_set}
@@ -21,9 +21,9 @@ even : (set : ℕ) (key : List ℕ) → handed set key ≡ true → length key �
 unfolding handed for_set
 even set key = by (set_of set) refl
   where
-    by : (c : SetChoice) → set_of set ≡ c → for_set c false (λ s. eqb (length key) s.private) ≡ true → length key ≡ length key / 2 + length key / 2
-    by Unknown e h = absurd (false≢true h)
-    by (Known s) e h = omega (arith, eqb-true (length key) s.private h, (known_set set s e).private)
+    by : (c : Option Parameters) → set_of set ≡ c → for_set c false (λ s. eqb (length key) s.private) ≡ true → length key ≡ length key / 2 + length key / 2
+    by None e h = absurd (false≢true h)
+    by (Some s) e h = omega (arith, eqb-true (length key) s.private h, (known_set set s e).private)
 
 -- no bytes further on
 pub no_further : (place : ℕ × ℕ) → further place 0 ≡ place

@@ -1,7 +1,7 @@
 -- What an exported call owes, where the answer goes as two numbers and a part of a lent buffer as its start and its length.
 -- Assumes nothing: these are definitions.
 use Rattle.std.specs.Prelude.{List, ◌≡◌, ℕ, length, take, drop}
-use Rattle.answers.specs.declared.Answer.{Answer}
+use Rattle.answers.specs.Answers.{Answer}
 use Rattle.answers.specs.Answers.{number_of, place_of}
 use Rattle.calls_halves.specs.Halves.{further}
 

@@ -34,43 +34,45 @@ pub struct Part {
     pub length: usize,
 }
 
-fn plain(answer: Answer) -> PlainAnswer
-    ensures { (result.number ≡ number_of answer) × (result.place ≡ place_of answer) }
-{
-    PlainAnswer {
-        number: answers::number(answer),
-        place: answers::place(answer),
+impl From<Answer> for PlainAnswer {
+    fn from(answer: Answer) -> PlainAnswer
+        ensures { (result.number ≡ number_of answer) × (result.place ≡ place_of answer) }
+    {
+        PlainAnswer {
+            number: answers::number(answer),
+            place: answers::place(answer),
+        }
     }
 }
 
 pub fn rl_product(set: usize, a: &[u16], b: &[u16], out: &mut [u16]) -> PlainAnswer
     ensures { Exported (λ answer. Product set a.now b.now out.old answer out.new) result.number result.place }
 {
-    plain(calls_product::product(set, a, b, out))
+    PlainAnswer::from(calls_product::product(set, a, b, out))
 }
 
 pub fn rl_transform(set: usize, a: &[u16], out: &mut [u16]) -> PlainAnswer
     ensures { Exported (λ answer. Transform set a.now out.old answer out.new) result.number result.place }
 {
-    plain(calls_transforms::transform::transform(set, a, out))
+    PlainAnswer::from(calls_transforms::transform::transform(set, a, out))
 }
 
 pub fn rl_reverse(set: usize, a: &[u16], out: &mut [u16]) -> PlainAnswer
     ensures { Exported (λ answer. Reverse set a.now out.old answer out.new) result.number result.place }
 {
-    plain(calls_transforms::reverse::reverse(set, a, out))
+    PlainAnswer::from(calls_transforms::reverse::reverse(set, a, out))
 }
 
 pub fn rl_make(set: usize, seed: &[u8], public: &mut [u8], private: &mut [u8]) -> PlainAnswer
     ensures { Exported (λ answer. Make set seed.now public.old private.old answer public.new private.new) result.number result.place }
 {
-    plain(calls_make::make(set, seed, public, private))
+    PlainAnswer::from(calls_make::make(set, seed, public, private))
 }
 
 pub fn rl_r_image(set: usize, hblock: &[u8], image: &mut [u8]) -> PlainAnswer
     ensures { Exported (λ answer. RImage set hblock.now image.old answer image.new) result.number result.place }
 {
-    plain(calls_r_image::r_image(set, hblock, image))
+    PlainAnswer::from(calls_r_image::r_image(set, hblock, image))
 }
 
 pub fn rl_seal(
@@ -84,7 +86,7 @@ pub fn rl_seal(
 ) -> PlainAnswer
     ensures { Exported (λ answer. Seal set public.now message.now hblock.now gblock.now cipher.old key.old answer cipher.new key.new) result.number result.place }
 {
-    plain(calls_seal::seal(set, public, message, hblock, gblock, cipher, key))
+    PlainAnswer::from(calls_seal::seal(set, public, message, hblock, gblock, cipher, key))
 }
 
 pub fn rl_open_1(
@@ -96,19 +98,19 @@ pub fn rl_open_1(
 ) -> PlainAnswer
     ensures { Exported (λ answer. OpenOne set private.now cipher.now marks.old image.old answer marks.new image.new) result.number result.place }
 {
-    plain(calls_open_1::open_1(set, private, cipher, marks, image))
+    PlainAnswer::from(calls_open_1::open_1(set, private, cipher, marks, image))
 }
 
 pub fn rl_open_2(set: usize, marks: &[u8], gblock: &[u8], message: &mut [u8]) -> PlainAnswer
     ensures { Exported (λ answer. OpenTwo set marks.now gblock.now message.old answer message.new) result.number result.place }
 {
-    plain(calls_open_2::open_2(set, marks, gblock, message))
+    PlainAnswer::from(calls_open_2::open_2(set, marks, gblock, message))
 }
 
 pub fn rl_open_3(set: usize, image: &[u8], hblock: &[u8], key: &mut [u8]) -> PlainAnswer
     ensures { Exported (λ answer. OpenThree set image.now hblock.now key.old answer key.new) result.number result.place }
 {
-    plain(calls_open_3::open_3(set, image, hblock, key))
+    PlainAnswer::from(calls_open_3::open_3(set, image, hblock, key))
 }
 
 pub fn rl_f_half(set: usize, key: &[u8]) -> Part

@@ -1,14 +1,14 @@
 -- The product in a set that the first line has chosen: the call answers 0, and what it writes can be printed.
 -- Assumes nothing.
 use mathlib.Core.List.{List, []}
-use mathlib.Core.Path.{◌≡◌, sym, ◌∙◌, subst}
+use mathlib.Core.Path.{◌≡◌, sym, ap, ◌∙◌, subst}
 use Prim.Native.Nat.{ℕ, ◌≤◌, ◌<◌}
 use native.Mathlib.Omega.{arith}
 use lib.ListN.{length}
 use Rattle.residue.specs.Residues.{Residues}
 use Rattle.algebra.specs.Numbers.{residues}
 use Rattle.algebra.specs.Product.{product}
-use Rattle.answers.specs.declared.Answer.{Answer}
+use Rattle.answers.specs.Answers.{Answer}
 use Rattle.answers.specs.Answers.{number_of, place_of}
 use Rattle.calls_product.specs.Product.{product_of, Product}
 use Rattle.lines.specs.Output.{product_lines}
@@ -27,6 +27,9 @@ module _ {input : List ℕ} {set n : ℕ} (chosen : Chosen input set n) where
   pub chosen_small : n ≤ 1152
   chosen_small = omega (arith, chosen.size, is_set.small)
 
+  pub set_below : set ≤ 1152
+  set_below = omega (arith, is_set.size, is_set.small)
+
   -- the product is n residues
   product_set : (a b : List ℕ) → Residues n (product_of set a b)
   unfolding product_of
@@ -41,6 +44,10 @@ module _ {input : List ℕ} {set n : ℕ} (chosen : Chosen input set n) where
     chosen_product long =
         product_done set chosen.parameters chosen.known a b (subst (λ k. Residues k a) (sym chosen.size) ra)
         (subst (λ k. Residues k b) (sym chosen.size) rb) before r after (long ∙ sym chosen.size)
+
+  -- a set is named by the length of its lists
+  pub chosen_long : (a b l : List ℕ) → l ≡ product_of set a b → length l ≡ set
+  chosen_long a b l e = omega (arith, ap length e, (product_set a b).long, chosen.size, is_set.size)
 
   -- there is room for it
   pub chosen_room : (a b l : List ℕ) → l ≡ product_of set a b → (length l ≤ 1152) × (length (product_lines set l) ≤ 16384)

@@ -1,2 +1,3 @@
 pub mod Printed
 pub mod ChosenLaws
+pub mod Exits

@@ -1,2 +1,3 @@
 pub mod Line
 pub mod Chosen
+pub mod Read

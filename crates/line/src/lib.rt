@@ -1,62 +1,56 @@
 // ringline as one function from the input's bytes to the printed bytes.
 #![tactic(auto)]
 
-ghost use Rattle.std.specs.Prelude.{◌≡◌, ◌≤◌, length};
-ghost use Rattle.print.specs.Write.{Writes};
-ghost use Rattle.line.specs.Chosen.{Chosen};
-ghost use Rattle.line.specs.Line.{printed, Line};
+ghost use Rattle.std.specs.Prelude.{MatchResult};
+ghost use Rattle.line.specs.Read.{Multiplied, Refused};
+ghost use Rattle.line.specs.Line.{Line};
 
-use answers::{Answer, SetChoice};
+use answers::Refusal;
 use lines::input::{polynomial_in, set_in};
 use lines::output::{put_answer, put_lines};
-use text::Number;
-use text::read::past;
+use text::past;
 
-// The lines after the first, where that has named a known set. The lists are room for n numbers each.
-fn after_first(
-    set: usize,
-    input: &[u8],
-    a: &mut [u16],
-    b: &mut [u16],
-    c: &mut [u16],
-    out: &mut [u8],
-) -> usize
-    requires { Chosen input.now set (length a.old) × (length b.old ≡ length a.old) × (length c.old ≡ length a.old) × (16384 ≤ length out.old) }
-    ensures { Writes out.old 0 (printed input.now) out.new result }
+// The most bytes that an input may have.
+pub const LONGEST: usize = 32768;
+
+// Room for all that can be printed.
+pub const OUTPUT_ROOM: usize = 16384;
+
+// The input's set, and in front of the list the product of its two polynomials. A set is named by how long they are.
+fn product_in(input: &[u8], list: &mut [u16; 1152]) -> Result<usize, Refusal>
+    ensures { MatchResult result (λ set. Multiplied input.now list.new set) (λ refusal. Refused input.now refusal) }
 {
-    let second = past(input, b'\n');
-    if !polynomial_in(b"a=", second, a) {
-        return put_answer(Answer::Malformed(2), out);
+    if input.len() > LONGEST {
+        return Err(Refusal::Malformed(0));
     }
-    let third = past(second, b'\n');
-    if !polynomial_in(b"b=", third, b) {
-        return put_answer(Answer::Malformed(3), out);
+    let set = set_in(input).ok_or(Refusal::Malformed(1))?;
+    let s = answers::set_of(set).ok_or(Refusal::UnknownSet)?;
+    let mut first = rooms::numbers();
+    let mut second = rooms::numbers();
+    let a = &mut first[..s.n];
+    let b = &mut second[..s.n];
+    let second_line = past(input, b'\n');
+    if !polynomial_in(b"a=", second_line, a) {
+        return Err(Refusal::Malformed(2));
     }
-    let more = past(third, b'\n');
-    if more.len() > 0 {
-        return put_answer(Answer::Malformed(4), out);
+    let third_line = past(second_line, b'\n');
+    if !polynomial_in(b"b=", third_line, b) {
+        return Err(Refusal::Malformed(3));
     }
-    let answer = calls_product::product(set, a, b, c);
-    put_lines(answer, set, c, out)
+    let more = past(third_line, b'\n');
+    if !more.is_empty() {
+        return Err(Refusal::Malformed(4));
+    }
+    calls_product::product(set, a, b, &mut list[..s.n])?;
+    Ok(set)
 }
 
-pub fn line(input: &[u8], output: &mut [u8; 16384]) -> usize
+pub fn line(input: &[u8], output: &mut [u8; OUTPUT_ROOM]) -> usize
     ensures { Line input.now output.old result output.new }
 {
-    if input.len() > 32768 {
-        return put_answer(Answer::Malformed(0), output);
-    }
-    match set_in(input) {
-        Number::NotNumber => put_answer(Answer::Malformed(1), output),
-        Number::Is(set) => match answers::set_of(set) {
-            SetChoice::Unknown => put_answer(Answer::UnknownSet, output),
-            SetChoice::Known(s) => {
-                let n = s.n;
-                let mut a = rooms::numbers();
-                let mut b = rooms::numbers();
-                let mut c = rooms::numbers();
-                after_first(set, input, &mut a[..n], &mut b[..n], &mut c[..n], output)
-            }
-        },
+    let mut list = rooms::numbers();
+    match product_in(input, &mut list) {
+        Ok(set) => put_lines(Ok(()), set, &list[..set], output),
+        Err(refusal) => put_answer(Err(refusal), output),
     }
 }

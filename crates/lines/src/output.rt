@@ -1,30 +1,51 @@
 // The printed lines.
-ghost use Rattle.std.specs.Prelude.{◌≡◌, ◌+◌, ◌<◌, ◌≤◌, length};
+ghost use Rattle.std.specs.Prelude.{◌≡◌, ◌<◌, ◌≤◌, length};
 ghost use Rattle.answers.specs.Answers.{number_of, place_of};
 ghost use Rattle.print.specs.Printing.{decimal, printed_polynomial};
+ghost use Rattle.print.specs.Page.{Room, Prints};
 ghost use Rattle.print.specs.Write.{Writes};
 ghost use Rattle.lines.specs.Names.{product_name};
 ghost use Rattle.lines.specs.Output.{line_of, answer_lines, product_lines};
 
 use answers::Answer;
+use print::Page;
 
 // A line of a name and a number.
-fn put_number(name: &[u8], v: usize, at: usize, out: &mut [u8]) -> usize
-    requires { (v < 100000) × (at + length (line_of name.now (decimal v)) ≤ length out.old) }
-    ensures { Writes out.old at (line_of name.now (decimal v)) out.new result }
+fn number_line(name: &[u8], v: usize, page: &mut Page)
+    requires { (v < 100000) × Room page.old (line_of name.now (decimal v)) }
+    ensures { Prints page.old (line_of name.now (decimal v)) page.new }
 {
-    let value = print::put(name, at, out);
-    let end = print::put_decimal(v, value, out);
-    print::put_byte(b'\n', end, out)
+    page.put(name);
+    page.put_decimal(v);
+    page.put_byte(b'\n');
 }
 
-fn put_product(list: &[u16], at: usize, out: &mut [u8]) -> usize
-    requires { (length list.now ≤ 100000) × (at + length (line_of product_name (printed_polynomial list.now)) ≤ length out.old) }
-    ensures { Writes out.old at (line_of product_name (printed_polynomial list.now)) out.new result }
+fn product_line(list: &[u16], page: &mut Page)
+    requires { (length list.now ≤ 100000) × Room page.old (line_of product_name (printed_polynomial list.now)) }
+    ensures { Prints page.old (line_of product_name (printed_polynomial list.now)) page.new }
 {
-    let terms = print::put(b"product=", at, out);
-    let end = print::put_polynomial(list, terms, out);
-    print::put_byte(b'\n', end, out)
+    page.put(b"product=");
+    page.put_polynomial(list);
+    page.put_byte(b'\n');
+}
+
+fn lines_of_answer(answer: Answer, page: &mut Page)
+    requires { (place_of answer < 100000) × Room page.old (answer_lines (number_of answer) (place_of answer)) }
+    ensures { Prints page.old (answer_lines (number_of answer) (place_of answer)) page.new }
+{
+    number_line(b"code=", answers::number(answer), page);
+    number_line(b"place=", answers::place(answer), page);
+}
+
+// The lines of an answer of 0, and of the set and the product after it.
+fn lines_of_product(answer: Answer, set: usize, list: &[u16], page: &mut Page)
+    requires answer_value { (number_of answer ≡ 0) × (place_of answer ≡ 0) × (set < 100000) × (length list.now ≤ 100000) }
+    requires list_in_bounds { Room page.old (product_lines set list.now) }
+    ensures { Prints page.old (product_lines set list.now) page.new }
+{
+    lines_of_answer(answer, page);
+    number_line(b"set=", set, page);
+    product_line(list, page);
 }
 
 // The two lines of an answer, at the start.
@@ -32,8 +53,9 @@ pub fn put_answer(answer: Answer, out: &mut [u8]) -> usize
     requires { (place_of answer < 100000) × (length (answer_lines (number_of answer) (place_of answer)) ≤ length out.old) }
     ensures { Writes out.old 0 (answer_lines (number_of answer) (place_of answer)) out.new result }
 {
-    let next = put_number(b"code=", answers::number(answer), 0, out);
-    put_number(b"place=", answers::place(answer), next, out)
+    let mut page = Page { out, at: 0 };
+    lines_of_answer(answer, &mut page);
+    page.at
 }
 
 // The four lines after an answer of 0.
@@ -42,7 +64,7 @@ pub fn put_lines(answer: Answer, set: usize, list: &[u16], out: &mut [u8]) -> us
     requires list_in_bounds { length (product_lines set list.now) ≤ length out.old }
     ensures { Writes out.old 0 (product_lines set list.now) out.new result }
 {
-    let next = put_answer(answer, out);
-    let last = put_number(b"set=", set, next, out);
-    put_product(list, last, out)
+    let mut page = Page { out, at: 0 };
+    lines_of_product(answer, set, list, &mut page);
+    page.at
 }

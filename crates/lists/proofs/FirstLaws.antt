@@ -5,12 +5,15 @@ use mathlib.Core.Bool.{Bool, true, false, false≢true, cond}
 use mathlib.Core.List.{List, [], ◌∷◌, ◌++◌, flatten, append-nil}
 use Prim.Native.Nat.{ℕ, zero, suc, ◌+◌, ◌≤◌, ◌<◌}
 use native.Mathlib.Decide.{dec_lt}
-use native.Mathlib.Numerals.{add-one}
+use native.Mathlib.Numerals.{add-one, one-add}
 use native.Mathlib.Omega.{arith}
 use lib.Dec.{ltb}
 use lib.ListN.{length, get_or, drop, length-append}
 use lib.Seq.{drop-cons}
 use borrow.Author.Tests.{lt-ltb, le-ltb}
+use Rattle.std.proofs.Common.{Some, None, position}
+use Rattle.std.specs.List.{position_or_len}
+use Rattle.std.proofs.lemmas.List.Recursion.{is_position_or_len}
 use Rattle.lists.specs.First.{first_where, first_through}
 
 -- the lists one after the other are as long as all of them
@@ -64,6 +67,42 @@ module _ (p : ℕ → Bool) where
     where
       by : Dec (first_where p xs < length xs) → first_where p xs ≡ length xs
       by (yes b) = absurd (false≢true (sym (h (first_where p xs) b) ∙ first_holds xs b))
+      by (no b) = omega (arith, first_within xs, b)
+
+  -- ---- as the library's searches say it
+
+  or_length : (xs : List ℕ) → first_where p xs ≡ position_or_len p xs
+  unfolding first_where
+  or_length xs = is_position_or_len (first_where p) p refl (λ x ys. rw one-add refl) xs
+
+  -- where the test holds somewhere, `position` is the first place
+  pub position_here : (xs : List ℕ) → first_where p xs < length xs → position p xs ≡ Some (first_where p xs)
+  position_here xs h = rw (← or_length xs, lt-ltb (first_where p xs) (length xs) h) refl
+
+  pub position_nowhere : (xs : List ℕ) → length xs ≤ first_where p xs → position p xs ≡ None
+  position_nowhere xs h = rw (← or_length xs, le-ltb (first_where p xs) (length xs) h) refl
+
+  -- `position` finds a place: it is the first
+  pub position_some : (xs : List ℕ) (i : ℕ) → position p xs ≡ Some i → (first_where p xs ≡ i) × (i < length xs)
+  position_some xs i e = by (dec_lt (first_where p xs) (length xs))
+    where
+      by : Dec (first_where p xs < length xs) → (first_where p xs ≡ i) × (i < length xs)
+      by (yes b) =
+          let here : Some (first_where p xs) ≡ Some i = sym (position_here xs b) ∙ e in
+          let is : first_where p xs ≡ i = cc in
+          (is, omega (arith, is, b))
+      by (no b) =
+          let nowhere : None ≡ Some i = sym (position_nowhere xs (omega (arith, b))) ∙ e in
+          cc
+
+  -- `position` finds none: the first place is the length
+  pub position_none : (xs : List ℕ) → position p xs ≡ None → first_where p xs ≡ length xs
+  position_none xs e = by (dec_lt (first_where p xs) (length xs))
+    where
+      by : Dec (first_where p xs < length xs) → first_where p xs ≡ length xs
+      by (yes b) =
+          let here : Some (first_where p xs) ≡ None = sym (position_here xs b) ∙ e in
+          cc
       by (no b) = omega (arith, first_within xs, b)
 
   -- ---- the turns of a loop at the place i, and its end

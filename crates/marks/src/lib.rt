@@ -1,8 +1,7 @@
 // Marks: a byte for each coefficient of a small polynomial, 0, 1, or 2 for -1.
 #![tactic(auto)]
 
-ghost use Rattle.std.specs.Prelude.{◌≡◌, map, ◌<◌, length};
-ghost use Rattle.lists.specs.First.{first_where};
+ghost use Rattle.std.specs.Prelude.{◌≡◌, map, ◌<◌, length, position};
 ghost use Rattle.lists.specs.Below.{Below};
 ghost use Rattle.residue.specs.Residues.{Residues};
 ghost use Rattle.residue.specs.Signed.{centred_by_three, residue_of};
@@ -15,26 +14,22 @@ fn mark_of(value: i32) -> u8
     requires { Small value }
     ensures { result ≡ mark_of value }
 {
-    if value == 0 {
-        0
-    } else if value == 1 {
-        1
-    } else {
-        2
+    match value {
+        0 => 0,
+        1 => 1,
+        _ => 2,
     }
 }
 
 // The residue of what a mark stands for.
 fn residue_of(mark: u8) -> Residue
     requires { mark < 3 }
-    ensures { result.0 ≡ residue_of (of_mark mark) }
+    ensures { result.value ≡ residue_of (of_mark mark) }
 {
-    if mark == 0 {
-        Residue::ZERO
-    } else if mark == 1 {
-        Residue::ONE
-    } else {
-        Residue::ONE.neg()
+    match mark {
+        0 => Residue::ZERO,
+        1 => Residue::ONE,
+        _ => Residue::ONE.neg(),
     }
 }
 
@@ -43,9 +38,9 @@ pub fn mark(list: &[u16], marks: &mut [u8])
     requires { Residues (length marks.old) list.now }
     ensures { marks.new ≡ map (λ a. mark_of (centred_by_three a)) list.now }
 {
-    let n = marks.len();
-    for i in 0..n {
-        marks[i] = mark_of(Residue(list[i]).centred_by_three());
+    for (i, mark) in marks.iter_mut().enumerate() {
+        let coefficient = Residue { value: list[i] };
+        *mark = mark_of(coefficient.centred_by_three());
     }
 }
 
@@ -54,22 +49,15 @@ pub fn unmark(marks: &[u8], list: &mut [u16])
     requires { (length marks.now ≡ length list.old) × Below 3 marks.now }
     ensures { list.new ≡ map (λ m. residue_of (of_mark m)) marks.now }
 {
-    let n = list.len();
-    for i in 0..n {
-        list[i] = residue_of(marks[i]).0;
+    for (i, x) in list.iter_mut().enumerate() {
+        *x = residue_of(marks[i]).value;
     }
 }
 
-// The first byte that is no mark; the length where each is one.
-pub fn first_bad(marks: &[u8]) -> usize
-    ensures { result ≡ first_where no_mark marks.now }
+// The place of the first byte that is no mark.
+#[tactic(auto, unfolding(crate::specs::Marks::no_mark))]
+pub fn first_bad(marks: &[u8]) -> Option<usize>
+    ensures { result ≡ position no_mark marks.now }
 {
-    let mut i = 0;
-    while i < marks.len() {
-        if marks[i] > 2 {
-            return i;
-        }
-        i += 1;
-    }
-    i
+    marks.iter().position(|m| *m > 2)
 }

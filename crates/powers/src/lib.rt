@@ -2,14 +2,14 @@
 #![tactic(auto)]
 
 ghost use Rattle.std.specs.Prelude.{◌≡◌, ◌<◌};
-ghost use Rattle.residue.specs.Field.{q, one, generator, powq};
+ghost use Rattle.residue.specs.Field.{one, generator, powq};
 ghost use Rattle.powers.specs.Powers.{Powers};
 
-use residue::Residue;
+use residue::{GENERATOR, ONE, Residue};
 
 // The whole table. A caller makes it once and lends it: a constant is built anew wherever it is named.
 pub fn powers() -> [u16; 3456]
-    ensures { Powers Residue.GENERATOR.0 Residue.ONE.0 result }
+    ensures { Powers GENERATOR ONE result }
 {
     POWERS
 }
@@ -17,9 +17,9 @@ pub fn powers() -> [u16; 3456]
 // The power of GENERATOR at i, out of a lent table.
 pub fn power(powers: &[u16; 3456], i: usize) -> Residue
     requires { (i < 3456) × Powers generator one powers.now }
-    ensures { (result.0 ≡ powq generator i) × (result.0 < q) }
+    ensures { result.value ≡ powq generator i }
 {
-    Residue(powers[i])
+    Residue { value: powers[i] }
 }
 
 const POWERS: [u16; 3456] = [

@@ -43,7 +43,7 @@ spelled_decimal v h = spelled_digits (width v) v (below_width v h)
 
 -- digits pass the test for digits
 digits_pass : {s : List ℕ} → Each Digit s → all_digits s ≡ true
-unfolding all_digits is_digit
+unfolding is_digit
 digits_pass none = refl
 digits_pass (more {x = c} d e) = simp (le-leb 48 c d.low, le-leb c 57 d.high, digits_pass e)
 

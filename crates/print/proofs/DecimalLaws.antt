@@ -1,15 +1,16 @@
 -- The laws of printed numbers: how many digits, that they are digits, no zero in front.
 -- Assumes nothing.
-use mathlib.Core.Path.{◌≡◌, refl, sym, ◌∙◌, subst}
+use mathlib.Core.Path.{◌≡◌, refl, sym, ap, ◌∙◌, subst}
 use mathlib.Core.Bool.{Bool, true, false, cond}
-use mathlib.Core.List.{[], ◌∷◌}
+use mathlib.Core.List.{[], ◌∷◌, ◌++◌}
 use Prim.Native.Nat.{ℕ, zero, suc, ◌+◌, ◌*◌, ◌/◌, ◌%◌, ◌^◌, ◌≤◌, ◌<◌, max}
 use native.Mathlib.Decide.{ℕ_discrete}
 use native.Mathlib.Nat.{pow-succ'}
 use native.Mathlib.Omega.{arith}
 use lib.Dec.{ltb}
 use lib.ListN.{length, get_or, length-append, get_or-append}
-use borrow.Author.Tests.{ltb-true, ltb-false}
+use borrow.Author.Tests.{ltb-true, ltb-false, lt-ltb}
+use Rattle.std.proofs.lemmas.Bool.Decides.{nat_tests}
 use Rattle.print.specs.Printing.{digits, width, decimal}
 use Rattle.print.proofs.Each.{Each, none, more, each_append}
 
@@ -79,6 +80,24 @@ below_width v h = (wide v h).2
 pub length_decimal : (v : ℕ) → length (decimal v) ≡ width v
 unfolding decimal
 length_decimal v = length_digits (width v) v
+
+-- a number below 10 is one digit
+pub decimal_one : (v : ℕ) → v < 10 → decimal v ≡ (48 + v % 10) ∷ []
+unfolding decimal width digits
+decimal_one v h = rw (lt-ltb v 10 h) refl
+
+-- a number from 10 on has one digit more than its tenth
+width_more : (v : ℕ) → 10 ≤ v → v < 100000 → width v ≡ suc (width (v / 10))
+unfolding width
+width_more v h k = grind (arith, nat_tests)
+
+-- so its digits are those of its tenth, and the last
+pub decimal_more : (v : ℕ) → 10 ≤ v → v < 100000 → decimal v ≡ decimal (v / 10) ++ ((48 + v % 10) ∷ [])
+unfolding decimal digits
+decimal_more v h k = ap (λ w. digits w v) (width_more v h k)
+
+pub decimal_longer : (v : ℕ) → 10 ≤ v → v < 100000 → length (decimal v) ≡ length (decimal (v / 10)) + 1
+decimal_longer v h k = ap length (decimal_more v h k) ∙ length-append (decimal (v / 10)) ((48 + v % 10) ∷ [])
 
 -- it has one to five digits
 pub decimal_length : (v : ℕ) → v < 100000 → (1 ≤ length (decimal v)) × (length (decimal v) ≤ 5)

@@ -1,7 +1,7 @@
 pub mod Each
 pub mod WriteLaws
+pub mod PageLaws
 pub mod DecimalLaws
-pub mod DigitLoop
 pub mod JoinedLaws
 pub mod PrintingLaws
 pub mod BackLaws

@@ -3,7 +3,7 @@
 use mathlib.Core.Path.{◌≡◌, refl, ap, ap₂, ◌∙◌, subst}
 use mathlib.Core.Bool.{true}
 use mathlib.Core.List.{List, [], ◌∷◌, ◌++◌}
-use mathlib.Core.Option.{some}
+use Rattle.std.proofs.Common.{Some}
 use Prim.Native.Nat.{ℕ, zero, suc, ◌+◌, ◌≤◌, ◌<◌}
 use native.Mathlib.Omega.{arith}
 use lib.Dec.{eqb-suc-zero}
@@ -13,8 +13,6 @@ use borrow.Author.Tests.{le-leb, lt-ltb, ne_eqb}
 use Rattle.lists.specs.Tab.{tab}
 use Rattle.residue.specs.Field.{q}
 use Rattle.residue.specs.Residues.{Residues}
-use Rattle.text.specs.declared.Number.TheVariants.{Is}
-use Rattle.text.specs.declared.Term.TheVariants.{Of}
 use Rattle.text.specs.Numerals.{number}
 use Rattle.text.specs.Terms.{term_of, term, allowed, terms}
 use Rattle.text.specs.Polynomials.{zeros, polynomial}
@@ -29,11 +27,11 @@ use Rattle.print.proofs.BackLaws.{spelled_decimal, decimal_pass, Without, split_
 -- ---- numbers and terms
 
 -- parsing a printed number gives it back
-pub number_printed : (v : ℕ) → v < 100000 → number (decimal v) ≡ Is v
-number_printed v h = number_is (decimal v) (decimal_pass v h) ∙ ap Is (spelled_decimal v h)
+pub number_printed : (v : ℕ) → v < 100000 → number (decimal v) ≡ Some v
+number_printed v h = number_is (decimal v) (decimal_pass v h) ∙ ap Some (spelled_decimal v h)
 
 -- parsing a printed term gives its index and its value back
-pub term_printed : (i v : ℕ) → i < 100000 → v < 100000 → term (printed_term i v) ≡ Of i v
+pub term_printed : (i v : ℕ) → i < 100000 → v < 100000 → term (printed_term i v) ≡ Some (i, v)
 unfolding term term_of
 term_printed i v h k = ap₂ term_of (ap number (index_back i v) ∙ number_printed i h) (ap number (value_back i v) ∙ number_printed v k)
 
@@ -74,7 +72,7 @@ terms_store {n} {low} {i} {v} {l} p nonzero zs ts =
     ∙ ap (λ m. terms n (suc i) m ts) (set_at l 0 zs v i p.before)
 
 -- the terms of vs into l and then zeros: l and then vs
-terms_printed : {n low i : ℕ} {l : List ℕ} (vs : List ℕ) → At n low i l vs → terms n low (l ++ zeros (length vs)) (printed_terms i vs) ≡ some (l ++ vs)
+terms_printed : {n low i : ℕ} {l : List ℕ} (vs : List ℕ) → At n low i l vs → terms n low (l ++ zeros (length vs)) (printed_terms i vs) ≡ Some (l ++ vs)
 unfolding terms printed_terms zeros tab
 terms_printed [] p = refl
 terms_printed {low = low} (zero ∷ vs) p = simp append_snoc at (terms_printed vs (at_next p low (omega arith)))
@@ -94,11 +92,11 @@ polynomial_joined n (t ∷ ts) (more h filled) no_comma =
     rw (ne_eqb (length (joined (t ∷ ts))) 0 (λ e. omega (arith, joined_first t ts))) (ap (terms n 0 (zeros n)) (split_joined t ts no_comma))
 
 -- parsing a printed polynomial gives it back
-pub polynomial_printed : (n : ℕ) (l : List ℕ) → n ≤ 100000 → Residues n l → polynomial n (printed_polynomial l) ≡ some l
+pub polynomial_printed : (n : ℕ) (l : List ℕ) → n ≤ 100000 → Residues n l → polynomial n (printed_polynomial l) ≡ Some l
 unfolding printed_polynomial
 polynomial_printed n l few r =
     polynomial_joined n (printed_terms 0 l) (terms_some 0 l) (terms_no_comma 0 l)
-    ∙ subst (λ k. terms n 0 (zeros k) (printed_terms 0 l) ≡ some l) r.long (terms_printed l start)
+    ∙ subst (λ k. terms n 0 (zeros k) (printed_terms 0 l) ≡ Some l) r.long (terms_printed l start)
   where
     start : At n 0 0 [] l
     start = record {

@@ -2,12 +2,12 @@
 -- Assumes nothing.
 use mathlib.Core.Path.{◌≡◌, refl, sym, ap, ap₂, ◌∙◌}
 use mathlib.Core.List.{List, [], ◌∷◌, ◌++◌, append_assoc}
-use Prim.Native.Nat.{ℕ, suc, ◌+◌, ◌≤◌, ◌<◌}
+use Prim.Native.Nat.{ℕ, ◌+◌, ◌≤◌, ◌<◌}
 use native.Mathlib.Nat.{add-zero}
 use native.Mathlib.Numerals.{add-one}
 use native.Mathlib.Omega.{arith}
-use lib.ListN.{length, get_or, take, drop, set, length-append, take-append-drop}
-use lib.Seq.{length-take-le, take_at, drop-drop, drop-append-add, take-suc, set_split, set_at}
+use lib.ListN.{length, take, drop, set, length-append, length-drop, take-append-drop}
+use lib.Seq.{length-take-le, take_at, drop-drop, drop-append-add, set_split}
 use Rattle.print.specs.Write.{write, Writes}
 
 -- ---- the buffer
@@ -54,16 +54,6 @@ write_byte : (l : List ℕ) (at b : ℕ) → at < length l → set l at b ≡ wr
 unfolding write
 write_byte l at b h = set_split l at b h ∙ ap (λ k. take at l ++ (b ∷ drop k l)) (sym (add-one at))
 
--- a store in front of a text
-pub write_front : (l : List ℕ) (at b : ℕ) (s : List ℕ) → at < length l → set (write l (at + 1) s) at b ≡ write l at (b ∷ s)
-unfolding write
-write_front l at b s h =
-    let more : take (at + 1) l ≡ take at l ++ (get_or l at 0 ∷ []) = ap (λ k. take k l) (add-one at) ∙ take-suc l at 0 h in
-    let next : at + 1 + length s ≡ at + suc (length s) = omega arith in
-    ap₂ (λ a k. set (a ++ (s ++ drop k l)) at b) more next
-    ∙ ap (λ a. set a at b) (append_assoc (take at l) (get_or l at 0 ∷ []) _)
-    ∙ set_at (take at l) (get_or l at 0) _ b at (length-take-le at l (omega arith))
-
 -- ---- the contract
 
 -- two functions that print, one after the other
@@ -90,3 +80,16 @@ pub writes_within : (l : List ℕ) (at : ℕ) (s m : List ℕ) (r : ℕ) → at 
 unfolding write
 writes_within l at s m r h w =
     omega (arith, w.end, ap length w.content, length-append (take at l) (s ++ drop (at + length s) l), length-append s (drop (at + length s) l), length-take-le at l h)
+
+-- and the buffer keeps its length
+pub writes_long : (l : List ℕ) (at : ℕ) (s m : List ℕ) (r : ℕ) → at + length s ≤ length l → Writes l at s m r → length m ≡ length l
+unfolding write
+writes_long l at s m r h w =
+    omega (
+      arith,
+      ap length w.content,
+      length-append (take at l) (s ++ drop (at + length s) l),
+      length-append s (drop (at + length s) l),
+      length-take-le at l (omega arith),
+      length-drop (at + length s) l,
+    )

@@ -1,3 +1,4 @@
 pub mod Printing
 pub mod Places
 pub mod Write
+pub mod Page

@@ -7,63 +7,63 @@ ghost use Rattle.residue.specs.Signed.{centred, by_three, centred_by_three};
 
 pub mod scan;
 
-// A residue modulo 3457, by the number below 3457 that stands for it.
-#[derive(Clone, Copy)]
-pub struct Residue(pub u16);
+// The numbers that stand for one and for the generator: a clause can name them, and no constant whose type has an invariant.
+pub const ONE: u16 = 1;
+
+pub const GENERATOR: u16 = 7;
+
+// A residue modulo 3457, by the number below 3457 that stands for it. A list of residues stays a list of numbers, with `Residues` in
+// contracts: C lends such lists, and they are tested where they lie.
+#[derive(Clone, Copy, PartialEq, Eq)]
+pub struct Residue {
+    pub value: u16,
+    pub ghost below: { value < q },
+}
 
 impl Residue {
-    pub const ZERO: Residue = Residue(0);
+    pub const ZERO: Residue = Residue { value: 0 };
 
-    pub const ONE: Residue = Residue(1);
+    pub const ONE: Residue = Residue { value: ONE };
 
-    pub const GENERATOR: Residue = Residue(7);
+    pub const GENERATOR: Residue = Residue { value: GENERATOR };
 
     pub fn add(self, other: Residue) -> Residue
-        requires { (self.0 < q) × (other.0 < q) }
-        ensures { (result.0 ≡ addq self.0 other.0) × (result.0 < q) }
+        ensures { result.value ≡ addq self.value other.value }
     {
-        let sum = self.0 + other.0;
-        if sum < 3457 {
-            Residue(sum)
-        } else {
-            Residue(sum - 3457)
-        }
+        let sum = self.value + other.value;
+        let value = if sum < 3457 { sum } else { sum - 3457 };
+        Residue { value }
     }
 
     pub fn sub(self, other: Residue) -> Residue
-        requires { (self.0 < q) × (other.0 < q) }
-        ensures { (result.0 ≡ subq self.0 other.0) × (result.0 < q) }
+        ensures { result.value ≡ subq self.value other.value }
     {
-        let a = self.0;
-        let b = other.0;
-        if b <= a {
-            Residue(a - b)
-        } else {
-            Residue(a + 3457 - b)
-        }
+        let a = self.value;
+        let b = other.value;
+        let value = if b <= a { a - b } else { a + 3457 - b };
+        Residue { value }
     }
 
     pub fn neg(self) -> Residue
-        requires { self.0 < q }
-        ensures { (result.0 ≡ negq self.0) × (result.0 < q) }
+        ensures { result.value ≡ negq self.value }
     {
         Residue::ZERO.sub(self)
     }
 
     // The one reduction by 3457.
     pub fn mul(self, other: Residue) -> Residue
-        requires { (self.0 < q) × (other.0 < q) }
-        ensures { (result.0 ≡ mulq self.0 other.0) × (result.0 < q) }
+        ensures { result.value ≡ mulq self.value other.value }
     {
-        let a = self.0 as u32;
-        let b = other.0 as u32;
-        Residue((a * b % 3457) as u16)
+        let a = u32::from(self.value);
+        let b = u32::from(other.value);
+        Residue {
+            value: (a * b % 3457) as u16,
+        }
     }
 
     // From the power of half the exponent. Anything to the power 0 is 1.
     pub fn pow(self, e: u32) -> Residue
-        requires { self.0 < q }
-        ensures { (result.0 ≡ powq self.0 e) × (result.0 < q) }
+        ensures { result.value ≡ powq self.value e }
     {
         if e == 0 {
             return Residue::ONE;
@@ -75,29 +75,26 @@ impl Residue {
 
     // By Fermat. The inverse of 0 is given as 0; no caller may rest on it.
     pub fn inv(self) -> Residue
-        requires { self.0 < q }
-        ensures { (result.0 ≡ invq self.0) × (result.0 < q) }
+        ensures { result.value ≡ invq self.value }
     {
         self.pow(3455)
     }
 
     // The value congruent to the residue in -1728..1728. The sign is taken last.
     pub fn centred(self) -> i32
-        requires { self.0 < q }
-        ensures { result ≡ centred self.0 }
+        ensures { result ≡ centred self.value }
     {
-        let a = self.0;
+        let a = self.value;
         if a <= 1728 {
-            a as i32
+            i32::from(a)
         } else {
-            -((3457 - a) as i32)
+            -i32::from(3457 - a)
         }
     }
 
     // Centred first, then by 3: -1, 0 or 1.
     pub fn centred_by_three(self) -> i32
-        requires { self.0 < q }
-        ensures { result ≡ centred_by_three self.0 }
+        ensures { result ≡ centred_by_three self.value }
     {
         by_three(self.centred())
     }

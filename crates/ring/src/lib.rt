@@ -2,7 +2,7 @@
 #![tactic(auto)]
 
 ghost use Rattle.std.specs.Prelude.{◌≡◌, ◌+◌, ◌-◌, ◌<◌, ◌≤◌, length, get_or};
-ghost use Rattle.residue.specs.Field.{q, addq, subq, mulq};
+ghost use Rattle.residue.specs.Field.{addq, subq, mulq};
 ghost use Rattle.residue.specs.Residues.{Residues};
 ghost use Rattle.algebra.specs.Numbers.{residues, sum};
 ghost use Rattle.algebra.specs.Product.{coefficient, schoolbook, product};
@@ -11,8 +11,7 @@ use residue::Residue;
 
 // One product more in a sum.
 pub fn plus_product(sum: Residue, x: Residue, y: Residue) -> Residue
-    requires { (sum.0 < q) × (x.0 < q) × (y.0 < q) }
-    ensures { (result.0 ≡ addq sum.0 (mulq x.0 y.0)) × (result.0 < q) }
+    ensures { result.value ≡ addq sum.value (mulq x.value y.value) }
 {
     sum.add(x.mul(y))
 }
@@ -21,11 +20,14 @@ pub fn plus_product(sum: Residue, x: Residue, y: Residue) -> Residue
 fn dot(a: &[u16], b: &[u16], m: usize, from: usize, end: usize) -> Residue
     requires residues { Residues (length a.now) a.now × Residues (length b.now) b.now }
     requires from_value { (from ≡ m + 1 - length b.now) × (from ≤ end) × (end ≤ length a.now) × (end ≤ m + 1) }
-    ensures { result.0 ≡ sum residues end (λ i. mulq (get_or a.now i 0) (get_or b.now (m - i) 0)) }
+    ensures { result.value ≡ sum residues end (λ i. mulq (get_or a.now i 0) (get_or b.now (m - i) 0)) }
 {
+    // By the index: the rule is said of the places i and m - i.
     let mut sum = Residue::ZERO;
     for i in from..end {
-        sum = plus_product(sum, Residue(a[i]), Residue(b[m - i]));
+        let x = Residue { value: a[i] };
+        let y = Residue { value: b[m - i] };
+        sum = plus_product(sum, x, y);
     }
     sum
 }
@@ -33,7 +35,7 @@ fn dot(a: &[u16], b: &[u16], m: usize, from: usize, end: usize) -> Residue
 // The coefficient at x^m before folding.
 fn coefficient(n: usize, a: &[u16], b: &[u16], m: usize) -> Residue
     requires { Residues n a.now × Residues n b.now × (m < n + n) }
-    ensures { (result.0 ≡ schoolbook residues (coefficient residues a.now) (coefficient residues b.now) m) × (result.0 < q) }
+    ensures { result.value ≡ schoolbook residues (coefficient residues a.now) (coefficient residues b.now) m }
 {
     if m < n {
         dot(a, b, m, 0, m + 1)
@@ -44,21 +46,19 @@ fn coefficient(n: usize, a: &[u16], b: &[u16], m: usize) -> Residue
 
 // At x^i: c_i - c_(n + i) - c_(3h + i), by x^(n + i) = x^(h + i) - x^i and x^(3h + i) = -x^i.
 fn fold_low(own: Residue, next: Residue, last: Residue) -> Residue
-    requires { (own.0 < q) × (next.0 < q) × (last.0 < q) }
-    ensures { result.0 ≡ subq own.0 (addq next.0 last.0) }
+    ensures { result.value ≡ subq own.value (addq next.value last.value) }
 {
     own.sub(next.add(last))
 }
 
 // At x^(h + i): c_(h + i) + c_(n + i).
 fn fold_high(own: Residue, next: Residue) -> Residue
-    requires { (own.0 < q) × (next.0 < q) }
-    ensures { result.0 ≡ addq own.0 next.0 }
+    ensures { result.value ≡ addq own.value next.value }
 {
     own.add(next)
 }
 
-// Places i and h + i in one turn, so that each of the 2n coefficients before folding is made once.
+// Places i and h + i in one turn, by their index, so that each of the 2n coefficients before folding is made once.
 pub fn product(half: usize, a: &[u16], b: &[u16], out: &mut [u16])
     requires { Residues (half + half) a.now × Residues (half + half) b.now × (length out.old ≡ half + half) }
     ensures { out.new ≡ product residues half a.now b.now }
@@ -69,7 +69,7 @@ pub fn product(half: usize, a: &[u16], b: &[u16], out: &mut [u16])
         let second = coefficient(n, a, b, half + i);
         let third = coefficient(n, a, b, n + i);
         let fourth = coefficient(n, a, b, n + (half + i));
-        out[i] = fold_low(first, third, fourth).0;
-        out[half + i] = fold_high(second, third).0;
+        out[i] = fold_low(first, third, fourth).value;
+        out[half + i] = fold_high(second, third).value;
     }
 }

@@ -1,24 +1,13 @@
 // ringline reads standard input and prints what `line` makes of it.
 #![tactic(auto)]
 
-ghost use Rattle.std.specs.Prelude.{◌≡◌, length};
-
 // One byte more than an input may have, so that a longer one is told apart.
-fn input_room() -> [u8; 32769]
-    ensures { 32769 ≡ length result }
-{
-    [0; 32769]
-}
+const INPUT_ROOM: usize = line::LONGEST + 1;
 
-fn output_room() -> [u8; 16384]
-    ensures { 16384 ≡ length result }
-{
-    [0; 16384]
-}
-
+// The kit's io reads and writes, and not std's, whose reader gives an `Err` where a read fails: what was read before would no longer be the input.
 fn main() {
-    let mut input = input_room();
-    let mut output = output_room();
+    let mut input = [0; INPUT_ROOM];
+    let mut output = [0; line::OUTPUT_ROOM];
     let read = io::read_full(0, &mut input);
     let printed = line::line(&input[..read], &mut output);
     io::write_all(1, &output[..printed]);

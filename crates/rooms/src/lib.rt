@@ -1,4 +1,5 @@
 // Working room for a call, long enough for the larger set. It holds zeros at first.
+// Two functions and no generic one, with which each of the callers would name a type and a size beside the name of its room.
 #![tactic(auto)]
 
 ghost use Rattle.std.specs.Prelude.{◌≡◌, length};

@@ -22,11 +22,17 @@ pub fn list_halves(block: &[u8], halves: &mut [u8])
 }
 
 // first - second, of two bits.
-pub fn difference(first: u8, second: u8) -> u16
+pub fn difference(first: u8, second: u8) -> Residue
     requires { (first < 2) × (second < 2) }
-    ensures { result ≡ residue_of (pos first -ℤ pos second) }
+    ensures { result.value ≡ residue_of (pos first -ℤ pos second) }
 {
-    Residue(first as u16).sub(Residue(second as u16)).0
+    let a = Residue {
+        value: u16::from(first),
+    };
+    let b = Residue {
+        value: u16::from(second),
+    };
+    a.sub(b)
 }
 
 // The coefficients that the bits of two halves sample.
@@ -35,8 +41,8 @@ fn sample_bits(halves: &[u8], coefficients: &mut [u16])
     ensures { coefficients.new ≡ tab (length coefficients.old) (λ i. residue_of (pos (get_or halves.now i 0) -ℤ pos (get_or halves.now (length coefficients.old + i) 0))) }
 {
     let n = coefficients.len();
-    for i in 0..n {
-        coefficients[i] = difference(halves[i], halves[n + i]);
+    for (i, coefficient) in coefficients.iter_mut().enumerate() {
+        *coefficient = difference(halves[i], halves[n + i]).value;
     }
 }
 

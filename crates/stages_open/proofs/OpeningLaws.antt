@@ -1,4 +1,4 @@
--- A list mapped twice; and marks: those of a polynomial taken by 3 are below 3, and stand for it.
+-- Marks: those of a polynomial taken by 3 are below 3, and stand for it.
 -- Assumes nothing.
 use mathlib.Core.List.{List, [], ◌∷◌, map}
 use mathlib.Core.Path.{◌≡◌, refl, ap, ap₂, ◌∙◌}
@@ -13,10 +13,6 @@ use Rattle.marks.specs.Marks.{mark_of, of_mark}
 use Rattle.stages.specs.Opening.{opened_m}
 use Rattle.algebra.proofs.Lists.{reverse_residues}
 use Rattle.marks.proofs.MarkLaws.{mark_of_lt, of_mark_mark_of, by_three_small}
-
-pub map_map : {A B C : Type 0} (g : B → C) (f : A → B) (l : List A) → map (λ a. g (f a)) l ≡ map g (map f l)
-map_map g f [] = refl
-map_map g f (a ∷ l) = ap (λ xs. g (f a) ∷ xs) (map_map g f l)
 
 -- the marks of what is taken by 3 are below 3
 by_three_low : (l : List ℕ) (i : ℕ) → get_or (map mark_of (map centred_by_three l)) i 0 < 3
@@ -45,3 +41,8 @@ module _ (h w : ℕ) (F C : List ℕ) where
   pub opened_back : map (λ m. residue_of (of_mark m)) (map mark_of (opened_m h w F C)) ≡ map residue_of (opened_m h w F C)
   unfolding opened_m
   opened_back = by_three_back (reverse h w (times (h + h) C F))
+
+  -- what those marks stand for, as residues
+  pub element_is : {marks element : List ℕ} → marks ≡ map mark_of (opened_m h w F C) → element ≡ map (λ m. residue_of (of_mark m)) marks
+      → element ≡ map residue_of (opened_m h w F C)
+  element_is e f = f ∙ ap (map (λ m. residue_of (of_mark m))) e ∙ opened_back

@@ -1,90 +1,44 @@
-// Opening's first stage: m and the image of r, from a ciphertext and the two images of a private key. In what is not public, `p` and `q` are room for n numbers.
+// Opening's first stage: m and the image of r, from a ciphertext and the two images of a private key.
 #![tactic(auto)]
 
 ghost use Rattle.std.specs.Prelude.{◌≡◌, map, ◌+◌, length};
 ghost use Rattle.residue.specs.Field.{generator, powq};
 ghost use Rattle.residue.specs.Residues.{Residues};
 ghost use Rattle.marks.specs.Marks.{mark_of};
-ghost use Rattle.slots.specs.Ready.{Ready};
 ghost use Rattle.stages.specs.Opening.{opened_m, opened_r};
 
-use slots::reverse::reverse;
-use slots::transform::transform;
+use slots::Engine;
 
 // The marks of m: c times f, transformed back, centred and taken by 3.
-fn open_marks(
-    half: usize,
-    step: usize,
-    f: &[u16],
-    c: &[u16],
-    powers: &[u16; 3456],
-    p: &mut [u16],
-    q: &mut [u16],
-    marks: &mut [u8],
-)
-    requires ready { Ready half step powers.now × Residues (half + half) f.now × Residues (half + half) c.now }
-    requires p_len { (length p.old ≡ half + half) × (length q.old ≡ half + half) × (length marks.old ≡ half + half) }
-    ensures { marks.new ≡ map mark_of (opened_m half (powq generator step) f.now c.now) }
+fn open_marks(engine: &Engine, f: &[u16], c: &[u16], marks: &mut [u8])
+    requires { Residues (engine.now.half + engine.now.half) f.now × Residues (engine.now.half + engine.now.half) c.now × (length marks.old ≡ engine.now.half + engine.now.half) }
+    ensures { marks.new ≡ map mark_of (opened_m engine.now.half (powq generator engine.now.step) f.now c.now) }
 {
-    slotwise::times(c, f, p);
-    reverse(half, step, p, powers, q);
-    marks::mark(q, marks);
+    let n = c.len();
+    let mut first = rooms::numbers();
+    let mut second = rooms::numbers();
+    let image = &mut first[..n];
+    let element = &mut second[..n];
+    slotwise::times(c, f, image);
+    engine.reverse(image, element);
+    marks::mark(element, marks);
 }
 
-// And then the image of r: (c - m) times 1/h, slot by slot.
-fn open_in(
-    half: usize,
-    step: usize,
-    f: &[u16],
-    inverse: &[u16],
-    c: &[u16],
-    powers: &[u16; 3456],
-    p: &mut [u16],
-    q: &mut [u16],
-    marks: &mut [u8],
-    r: &mut [u16],
-)
-    requires ready { Ready half step powers.now × Residues (half + half) f.now × Residues (half + half) inverse.now × Residues (half + half) c.now }
-    requires p_len { (length p.old ≡ half + half) × (length q.old ≡ half + half) × (length marks.old ≡ half + half) × (length r.old ≡ half + half) }
-    ensures marks_after { marks.new ≡ map mark_of (opened_m half (powq generator step) f.now c.now) }
-    ensures r_after { r.new ≡ opened_r half (powq generator step) f.now inverse.now c.now }
+// The marks of m and the image of r, which is (c - m) times 1/h, slot by slot.
+pub fn open(engine: &Engine, f: &[u16], inverse: &[u16], c: &[u16], marks: &mut [u8], r: &mut [u16])
+    requires residues { Residues (engine.now.half + engine.now.half) f.now × Residues (engine.now.half + engine.now.half) inverse.now × Residues (engine.now.half + engine.now.half) c.now }
+    requires lengths { (length marks.old ≡ engine.now.half + engine.now.half) × (length r.old ≡ engine.now.half + engine.now.half) }
+    ensures marks_after { marks.new ≡ map mark_of (opened_m engine.now.half (powq generator engine.now.step) f.now c.now) }
+    ensures r_after { r.new ≡ opened_r engine.now.half (powq generator engine.now.step) f.now inverse.now c.now }
 {
-    open_marks(half, step, f, c, powers, p, q, marks);
-    marks::unmark(marks, p);
-    transform(half, step, p, powers, q);
-    slotwise::minus(c, q, p);
-    slotwise::times(p, inverse, r);
-}
-
-// The marks of m and the image of r.
-pub fn open(
-    half: usize,
-    step: usize,
-    f: &[u16],
-    inverse: &[u16],
-    c: &[u16],
-    powers: &[u16; 3456],
-    marks: &mut [u8],
-    r: &mut [u16],
-)
-    requires ready { Ready half step powers.now × Residues (half + half) f.now × Residues (half + half) inverse.now × Residues (half + half) c.now }
-    requires marks_len { (length marks.old ≡ half + half) × (length r.old ≡ half + half) }
-    ensures marks_after { marks.new ≡ map mark_of (opened_m half (powq generator step) f.now c.now) }
-    ensures r_after { r.new ≡ opened_r half (powq generator step) f.now inverse.now c.now }
-{
-    let n = half + half;
-    let mut p = rooms::numbers();
-    let mut q = rooms::numbers();
-    open_in(
-        half,
-        step,
-        f,
-        inverse,
-        c,
-        powers,
-        &mut p[..n],
-        &mut q[..n],
-        marks,
-        r,
-    );
+    let n = c.len();
+    let mut first = rooms::numbers();
+    let mut second = rooms::numbers();
+    let element = &mut first[..n];
+    let image = &mut second[..n];
+    open_marks(engine, f, c, marks);
+    marks::unmark(marks, element);
+    engine.transform(element, image);
+    slotwise::minus(c, image, element);
+    slotwise::times(element, inverse, r);
 }

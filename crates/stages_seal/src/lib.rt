@@ -5,41 +5,41 @@ ghost use Rattle.std.specs.Prelude.{◌≡◌, ◌+◌, ◌*◌, ◌%◌, ◌≤
 ghost use Rattle.residue.specs.Field.{generator, powq};
 ghost use Rattle.residue.specs.Residues.{Residues};
 ghost use Rattle.encoding.specs.Encoding.{encoded};
-ghost use Rattle.slots.specs.Ready.{Ready};
 ghost use Rattle.stages.specs.Sealing.{key_bytes, small_r, r_image, sealed_image};
 
+use slots::Engine;
 use stages::images::{encoded_image, sampled_image};
 
 // The image of the r that an H block brings after its 32 key bytes.
-pub fn r_image(half: usize, step: usize, hblock: &[u8], powers: &[u16; 3456], out: &mut [u16])
-    requires { Ready half step powers.now × (half % 16 ≡ 0) × (length hblock.now + length hblock.now ≡ 64 + half) × (length out.old ≡ half + half) }
-    ensures { out.new ≡ r_image half (powq generator step) hblock.now }
+pub fn r_image(engine: &Engine, hblock: &[u8], out: &mut [u16])
+    requires { (engine.now.half % 16 ≡ 0) × (length hblock.now + length hblock.now ≡ 64 + engine.now.half) × (length out.old ≡ engine.now.half + engine.now.half) }
+    ensures { out.new ≡ r_image engine.now.half (powq generator engine.now.step) hblock.now }
 {
-    sampled_image(half, step, &hblock[32..], powers, out);
+    sampled_image(engine, &hblock[32..], out);
 }
 
-// The image of h*r + m, where h is given by its image. `p` and `r` are room for n numbers.
+// The image of h*r + m, where h is given by its image.
 pub fn sealed_image(
-    half: usize,
-    step: usize,
+    engine: &Engine,
     h: &[u16],
     message: &[u8],
     hblock: &[u8],
     gblock: &[u8],
-    powers: &[u16; 3456],
-    p: &mut [u16],
-    r: &mut [u16],
     out: &mut [u16],
 )
-    requires ready { Ready half step powers.now × Residues (half + half) h.now × (length message.now % 4 ≡ 0) × (half ≡ 4 * length message.now) × (length hblock.now ≡ 32 + length gblock.now) × (length gblock.now ≡ 2 * length message.now) }
-    requires p_len { (length p.old ≡ half + half) × (length r.old ≡ half + half) × (length out.old ≡ half + half) }
-    ensures { out.new ≡ sealed_image half (powq generator step) h.now (small_r hblock.now) (encoded message.now gblock.now) }
+    requires h_residues { Residues (engine.now.half + engine.now.half) h.now × (length out.old ≡ engine.now.half + engine.now.half) }
+    requires message_len { (length message.now % 4 ≡ 0) × (engine.now.half ≡ 4 * length message.now) × (length hblock.now ≡ 32 + length gblock.now) × (length gblock.now ≡ 2 * length message.now) }
+    ensures { out.new ≡ sealed_image engine.now.half (powq generator engine.now.step) h.now (small_r hblock.now) (encoded message.now gblock.now) }
 {
-    let after = &hblock[32..];
-    sampled_image(half, step, after, powers, r);
-    slotwise::times(h, r, p);
-    encoded_image(half, step, message, gblock, powers, r);
-    slotwise::plus(p, r, out);
+    let n = h.len();
+    let mut first = rooms::numbers();
+    let mut second = rooms::numbers();
+    let image = &mut first[..n];
+    let product = &mut second[..n];
+    r_image(engine, hblock, image);
+    slotwise::times(h, image, product);
+    encoded_image(engine, message, gblock, image);
+    slotwise::plus(product, image, out);
 }
 
 // The key bytes of an H block.
@@ -47,7 +47,5 @@ pub fn copy_key(hblock: &[u8], key: &mut [u8])
     requires { (length key.old ≡ 32) × (32 ≤ length hblock.now) }
     ensures { key.new ≡ key_bytes hblock.now }
 {
-    for i in 0..32 {
-        key[i] = hblock[i];
-    }
+    key.copy_from_slice(&hblock[..32]);
 }

@@ -5,13 +5,15 @@ use mathlib.Core.Bool.{Bool, true, false, ◌&&◌, cond, false≢true}
 use mathlib.Core.List.{List, [], ◌∷◌}
 use Prim.Native.Nat.{ℕ, suc, ◌+◌, ◌≤◌, ◌<◌}
 use native.Mathlib.Decide.{dec_lt}
-use native.Mathlib.Numerals.{add-one}
 use native.Mathlib.Omega.{arith}
 use lib.Dec.{eqb}
-use lib.ListN.{length, get_or, take, drop, drop_of_length-le}
-use lib.Seq.{drop-cons, drop-drop}
-use borrow.Author.Tests.{eq-eqb, ne_eqb}
+use lib.ListN.{length, take, drop, drop_of_length-le}
+use lib.Seq.{take_all}
+use lib.Pointwise.{pointwise}
+use borrow.Author.Rules.{part_to_end}
+use Rattle.std.proofs.Common.{◌-◌, Option, Some, None, Bor, MatchOption, position}
 use Rattle.lists.specs.First.{first_where}
+use Rattle.lists.proofs.FirstLaws.{position_some, position_none}
 use Rattle.text.specs.Lines.{up_to, past, begins, on_first, split}
 
 -- ---- whether a text begins with a name
@@ -35,23 +37,20 @@ begins_long name s e = by (dec_lt (length s) (length name))
     by (yes h) = absurd (false≢true (sym (begins_short name s h) ∙ e))
     by (no h) = omega arith
 
--- the turns of the loop at the place i, and its end
-module _ (name s : List ℕ) (i : ℕ) where
-  -- the bytes at i agree: the rests tell
-  pub begins_more : i < length name → i < length s → get_or s i 0 ≡ get_or name i 0
-      → begins (drop i name) (drop i s) ≡ begins (drop (i + 1) name) (drop (i + 1) s)
-  unfolding begins
-  begins_more h k e = rw (add-one, drop-cons name i 0, drop-cons s i 0) (simp (eq-eqb (get_or s i 0) (get_or name i 0) e))
+-- as the library's `strip_prefix` says it
+begins_is : (name s : List ℕ) → pointwise eqb (take (length name) s) name ≡ begins name s
+unfolding begins
+begins_is [] s = refl
+begins_is (c ∷ name) [] = refl
+begins_is (c ∷ name) (x ∷ s) = ap (λ b. eqb x c && b) (begins_is name s)
 
-  -- they don't
-  pub begins_not : i < length name → i < length s → (get_or s i 0 ≡ get_or name i 0 → ⊥) → begins (drop i name) (drop i s) ≡ false
-  unfolding begins
-  begins_not h k e = rw (drop-cons name i 0, drop-cons s i 0) (simp (ne_eqb (get_or s i 0) (get_or name i 0) e))
-
-  -- nothing is left of the name
-  pub begins_end : length name ≤ i → begins (drop i name) (drop i s) ≡ true
-  unfolding begins
-  begins_end h = ap (λ l. begins l (drop i s)) (drop_of_length-le name h)
+-- what follows the name, as `strip_prefix` says it
+pub after_is : (name s : List ℕ) (r : Option (Bor (List ℕ)))
+    → MatchOption r (pointwise eqb (take (length name) s) name ≡ false)
+    (λ x. (pointwise eqb (take (length name) s) name ≡ true) × (x.now ≡ drop (length name) s) × (length x.now + length name ≡ length s))
+    → MatchOption r (begins name s ≡ false) (λ x. (begins name s ≡ true) × (x.now ≡ drop (length name) s))
+after_is name s None h = sym (begins_is name s) ∙ h
+after_is name s (Some x) h = (sym (begins_is name s) ∙ h.0, h.1)
 
 -- ---- the pieces
 
@@ -89,14 +88,25 @@ module _ (c : ℕ) where
       by (yes h) = let e = split_more s h in e ∙ ap (λ ps. up_to c s ∷ drop 1 ps) (sym e)
       by (no h) = let e = split_last s (omega arith) in e ∙ ap (λ ps. up_to c s ∷ drop 1 ps) (sym e)
 
-  -- the bytes after the first c of those from `at` on, by their place in the whole
-  pub past_drop : (s : List ℕ) (at size : ℕ) → size ≡ first_where (eqb c) (drop at s) → past c (drop at s) ≡ drop (at + size + 1) s
-  unfolding past
-  past_drop s at size e =
-      let place : at + suc (first_where (eqb c) (drop at s)) ≡ at + size + 1 = omega arith in
-      drop-drop (suc (first_where (eqb c) (drop at s))) at s ∙ ap (λ k. drop k s) place
+-- ---- the pieces by the place of the first c, as a search for it answers
 
-  -- the bytes before the place of the first c
-  pub up_to_is : {xs text : List ℕ} {size : ℕ} → xs ≡ text → size ≡ first_where (eqb c) text → take size xs ≡ up_to c text
+module _ (c : ℕ) (s : List ℕ) where
+  pub up_to_found : {i : ℕ} → Some i ≡ position (eqb c) s → take i s ≡ up_to c s
   unfolding up_to
-  up_to_is e f = cc
+  up_to_found {i} e = ap (λ k. take k s) (sym (position_some (eqb c) s i (sym e)).0)
+
+  pub up_to_none : None ≡ position (eqb c) s → s ≡ up_to c s
+  unfolding up_to
+  up_to_none e = sym (take_all (first_where (eqb c) s) s (omega (arith, position_none (eqb c) s (sym e))))
+
+  pub past_found : {i : ℕ} → Some i ≡ position (eqb c) s → take (length s - (i + 1)) (drop (i + 1) s) ≡ past c s
+  unfolding past
+  past_found {i} e =
+      let place : i + 1 ≡ suc (first_where (eqb c) s) = omega (arith, (position_some (eqb c) s i (sym e)).0) in
+      part_to_end s (i + 1) ∙ ap (λ k. drop k s) place
+
+  pub past_none : None ≡ position (eqb c) s → [] ≡ past c s
+  unfolding past
+  past_none e =
+      let place : length s ≤ suc (first_where (eqb c) s) = omega (arith, position_none (eqb c) s (sym e)) in
+      sym (drop_of_length-le s place)

@@ -11,8 +11,8 @@ use lib.Dec.{leb, eqb}
 use lib.ListN.{length, get_or, drop, drop_of_length-le}
 use lib.Seq.{drop-cons}
 use borrow.Author.Tests.{leb-true, ne_eqb}
+use Rattle.std.proofs.Common.{Some, None}
 use Rattle.lists.proofs.Every.{both_true}
-use Rattle.text.specs.declared.Number.TheVariants.{Is, NotNumber}
 use Rattle.text.specs.Numerals.{is_digit, all_digits, spelled, unpadded, is_number, number}
 
 -- a digit is 48 to 57
@@ -20,24 +20,9 @@ pub digit_is : (c : ℕ) → is_digit c ≡ true → (48 ≤ c) × (c ≤ 57)
 unfolding is_digit
 digit_is c e = let b = both_true (leb 48 c) (leb c 57) e in (leb-true 48 c b.0, leb-true c 57 b.1)
 
--- ---- the turns of the loops at the place i, and their ends
+-- ---- the turns of the loop at the place i, and its end
 
 module _ (s : List ℕ) (i : ℕ) where
-  -- a digit at i: the rest tells
-  pub digits_more : i < length s → is_digit (get_or s i 0) ≡ true → all_digits (drop i s) ≡ all_digits (drop (i + 1) s)
-  unfolding all_digits
-  digits_more h e = rw (add-one, drop-cons s i 0) (simp e)
-
-  -- another byte at i: not all are digits
-  pub digits_not : i < length s → is_digit (get_or s i 0) ≡ false → all_digits (drop i s) ≡ false
-  unfolding all_digits
-  digits_not h e = rw (drop-cons s i 0) (simp e)
-
-  -- none is left
-  pub digits_none : length s ≤ i → all_digits (drop i s) ≡ true
-  unfolding all_digits
-  digits_none h = ap all_digits (drop_of_length-le s h)
-
   -- the digit at i comes after those of the sum
   pub spelled_more : (sum : ℕ) → i < length s → spelled sum (drop i s) ≡ spelled (10 * sum + (get_or s i 0 - 48)) (drop (i + 1) s)
   unfolding spelled
@@ -50,7 +35,6 @@ module _ (s : List ℕ) (i : ℕ) where
 
 -- each byte of a run of digits is one
 pub digit_at : (s : List ℕ) → all_digits s ≡ true → (i : ℕ) → i < length s → is_digit (get_or s i 0) ≡ true
-unfolding all_digits
 digit_at [] e i h = absurd (omega arith)
 digit_at (c ∷ s) e zero h = (both_true (is_digit c) (all_digits s) e).0
 digit_at (c ∷ s) e (suc i) h = digit_at s (both_true (is_digit c) (all_digits s) e).1 i (omega arith)
@@ -71,11 +55,11 @@ unpadded_long s h = simp (ne_eqb (length s) 1 (λ e. omega arith))
 
 module _ (s : List ℕ) where
   -- what passes the test, and what doesn't
-  pub number_is : is_number s ≡ true → number s ≡ Is (spelled 0 s)
+  pub number_is : is_number s ≡ true → number s ≡ Some (spelled 0 s)
   unfolding number
   number_is e = simp e
 
-  pub number_not : is_number s ≡ false → number s ≡ NotNumber
+  pub number_not : is_number s ≡ false → number s ≡ None
   unfolding number
   number_not e = simp e
 
@@ -101,7 +85,7 @@ power_few sum k h b = lt_of_lt_of_le b (pow-le-pow_right {n = 10} (omega arith) 
 
 -- the digits of s after at most k others: a number of at most k + length s digits
 spelled_below : (s : List ℕ) (sum k : ℕ) → all_digits s ≡ true → sum < 10 ^ k → spelled sum s < 10 ^ (k + length s)
-unfolding all_digits spelled
+unfolding spelled
 spelled_below [] sum k e h = let z : k + 0 ≡ k = omega arith in rw z h
 spelled_below (c ∷ s) sum k e h =
     let b = both_true (is_digit c) (all_digits s) e in
@@ -109,11 +93,11 @@ spelled_below (c ∷ s) sum k e h =
     rw z (spelled_below s (10 * sum + (c - 48)) (k + 1) b.1 (power_more sum (c - 48) k h (omega (arith, digit_is c b.0))))
 
 -- a number is below 100000
-pub number_bound : (s : List ℕ) (v : ℕ) → number s ≡ Is v → v < 100000
+pub number_bound : (s : List ℕ) (v : ℕ) → number s ≡ Some v → v < 100000
 unfolding number
 number_bound s v = by (is_number s) refl
   where
-    by : (b : Bool) → is_number s ≡ b → cond b (Is (spelled 0 s)) NotNumber ≡ Is v → v < 100000
+    by : (b : Bool) → is_number s ≡ b → cond b (Some (spelled 0 s)) None ≡ Some v → v < 100000
     by true e q =
         let same : spelled 0 s ≡ v = cc in
         let n = is_number_lem s e in

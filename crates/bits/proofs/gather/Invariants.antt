@@ -1,9 +1,8 @@
--- The loop of `bits::gather`: after k turns, the byte is the number of the k highest of the eight bits.
+-- The loop of `bits::gather`: before the turn of bit b - 1, the byte is the number of the eight bits from bit b on.
 -- Assumes nothing.
 use Rattle.std.proofs.Common.{◌≡◌, ◌+◌, ◌-◌, ◌*◌, get_or}
 use Rattle.bits.specs.Bits.{number}
 use Rattle.bits.proofs.gather.Given as goal
 
-abbrev pub invariant-loop : goal.invariant-loop
-invariant-loop l =
-    (l.byte ≡ number l.counter (λ b. get_or l.bits (l.at + (8 - l.counter + b) * l.stride) 0)) × (l.from ≡ l.at + (8 - l.counter) * l.stride)
+abbrev pub invariant-loop-b : goal.invariant-loop-b
+invariant-loop-b l = l.byte ≡ number (8 - l.b) (λ i. get_or l.bits (l.at + (l.b + i) * l.stride) 0)

@@ -1,125 +1,49 @@
 -- `open_1` keeps its promise: the exits in the order of the numbers, each by what is known there.
 -- Assumes nothing.
-use mathlib.Core.Bool.{true}
+use mathlib.Core.Bool.{false}
 use mathlib.Core.Path.{◌≡◌, refl, sym, ◌∙◌}
-use Prim.Native.Nat.{◌≤◌}
 use native.Mathlib.Omega.{arith}
 use lib.ListN.{length}
-use Rattle.answers.specs.declared.Parameters.{Parameters}
-use Rattle.answers.specs.declared.SetChoice.TheVariants.{Known}
+use Rattle.std.proofs.Common.{rules, Err}
+use Rattle.answers.specs.declared.Refusal.TheVariants.{UnknownSet}
 use Rattle.answers.specs.Replies.{leaves}
-use Rattle.answers.specs.Sets.{set_of}
-use Rattle.rooms.proofs.RoomLaws.{part_long}
 use Rattle.answers.proofs.Exits.{unknown_set_lem, wrong_length_lem}
 use Rattle.answers.proofs.SetLaws.{IsSet, known_set}
 use Rattle.calls_open_1.specs.OpenOne.{open_one_reply, OpenOne}
-use Rattle.calls_open_1.proofs.OpenOnes.{fits, right, owed}
+use Rattle.calls_open_1.proofs.OpenOnes.{fits, owed}
 use Rattle.calls_open_1.proofs.open_1.Goals as goal
 
-pub returns-then-not-private-s : goal.returns-then-not-private-s
+pub returns-in_err-s : goal.returns-in_err-s
 unfolding OpenOne open_one_reply leaves
-returns-then-not-private-s c =
-    let chosen : Parameters = c.in-Known.s in
-    let known : set_of c.args.set ≡ Known chosen = sym c.set_of.ensures ∙ c.in-Known.is in
-    let s = c.args in
-    wrong_length_lem _ s.set _ _ _ known c.if-not-private-s.true (refl, refl)
+returns-in_err-s c =
+    let refused : c.from_residual.result ≡ Err UnknownSet = search rules in
+    rw refused (unknown_set_lem _ c.args.set _ _ (sym c.set_of.ensures ∙ c.in_err-s.ensures.ok_part) (refl, refl))
 
-pub slice_bounds-f-end : goal.slice_bounds-f-end
-slice_bounds-f-end c =
-    let chosen : Parameters = c.in-Known.s in
-    let known : set_of c.args.set ≡ Known chosen = sym c.set_of.ensures ∙ c.in-Known.is in
-    let set : IsSet c.args.set chosen = known_set _ _ known in
-    let n_room : chosen.n ≤ 1152 = set.small in
-    omega (arith, n_room, c.numbers-f.ensures)
+pub returns-then-not-image-s : goal.returns-then-not-image-s
+unfolding OpenOne open_one_reply leaves
+returns-then-not-image-s c =
+    let a = c.args in
+    let wrong : fits (length a.private.now) (length a.cipher.now) (length a.marks.now) (length a.image.now) c.in_ok-s.s ≡ false = grind arith in
+    wrong_length_lem _ a.set _ _ c.in_ok-s.s (sym c.set_of.ensures ∙ c.in_ok-s.ensures.ok_part) wrong (refl, refl)
 
-pub slice_bounds-open_1_in-end : goal.slice_bounds-open_1_in-end
-slice_bounds-open_1_in-end c =
-    let chosen : Parameters = c.in-Known.s in
-    let known : set_of c.args.set ≡ Known chosen = sym c.set_of.ensures ∙ c.in-Known.is in
-    let set : IsSet c.args.set chosen = known_set _ _ known in
-    let n_room : chosen.n ≤ 1152 = set.small in
-    sym (part_long _ 1152 _ c.numbers-f.ensures n_room)
-
-pub slice_bounds-inverse-end : goal.slice_bounds-inverse-end
-slice_bounds-inverse-end c =
-    let chosen : Parameters = c.in-Known.s in
-    let known : set_of c.args.set ≡ Known chosen = sym c.set_of.ensures ∙ c.in-Known.is in
-    let set : IsSet c.args.set chosen = known_set _ _ known in
-    let n_room : chosen.n ≤ 1152 = set.small in
-    omega (arith, n_room, c.numbers-inverse.ensures)
-
-pub slice_bounds-open_1_in-end-in-Known : goal.slice_bounds-open_1_in-end-in-Known
-slice_bounds-open_1_in-end-in-Known c =
-    let chosen : Parameters = c.in-Known.s in
-    let known : set_of c.args.set ≡ Known chosen = sym c.set_of.ensures ∙ c.in-Known.is in
-    let set : IsSet c.args.set chosen = known_set _ _ known in
-    let n_room : chosen.n ≤ 1152 = set.small in
-    sym (part_long _ 1152 _ c.numbers-inverse.ensures n_room)
-
-pub slice_bounds-c-end : goal.slice_bounds-c-end
-slice_bounds-c-end c =
-    let chosen : Parameters = c.in-Known.s in
-    let known : set_of c.args.set ≡ Known chosen = sym c.set_of.ensures ∙ c.in-Known.is in
-    let set : IsSet c.args.set chosen = known_set _ _ known in
-    let n_room : chosen.n ≤ 1152 = set.small in
-    omega (arith, n_room, c.numbers-c.ensures)
-
-pub slice_bounds-open_1_in-end-in-Known-2 : goal.slice_bounds-open_1_in-end-in-Known-2
-slice_bounds-open_1_in-end-in-Known-2 c =
-    let chosen : Parameters = c.in-Known.s in
-    let known : set_of c.args.set ≡ Known chosen = sym c.set_of.ensures ∙ c.in-Known.is in
-    let set : IsSet c.args.set chosen = known_set _ _ known in
-    let n_room : chosen.n ≤ 1152 = set.small in
-    sym (part_long _ 1152 _ c.numbers-c.ensures n_room)
-
-pub slice_bounds-r-end : goal.slice_bounds-r-end
-slice_bounds-r-end c =
-    let chosen : Parameters = c.in-Known.s in
-    let known : set_of c.args.set ≡ Known chosen = sym c.set_of.ensures ∙ c.in-Known.is in
-    let set : IsSet c.args.set chosen = known_set _ _ known in
-    let n_room : chosen.n ≤ 1152 = set.small in
-    omega (arith, n_room, c.numbers-r.ensures)
-
-pub slice_bounds-open_1_in-end-in-Known-3 : goal.slice_bounds-open_1_in-end-in-Known-3
-slice_bounds-open_1_in-end-in-Known-3 c =
-    let chosen : Parameters = c.in-Known.s in
-    let known : set_of c.args.set ≡ Known chosen = sym c.set_of.ensures ∙ c.in-Known.is in
-    let set : IsSet c.args.set chosen = known_set _ _ known in
-    let n_room : chosen.n ≤ 1152 = set.small in
-    sym (part_long _ 1152 _ c.numbers-r.ensures n_room)
+pub new-requires : goal.new-requires
+new-requires c = (known_set _ _ (sym c.set_of.ensures ∙ c.in_ok-s.ensures.ok_part)).turns
 
 pub open_1_in-requires : goal.open_1_in-requires
 open_1_in-requires c =
-    let chosen : Parameters = c.in-Known.s in
-    let known : set_of c.args.set ≡ Known chosen = sym c.set_of.ensures ∙ c.in-Known.is in
-    let set : IsSet c.args.set chosen = known_set _ _ known in
-    let n_room : chosen.n ≤ 1152 = set.small in
-    let fit : let s = c.args in fits (length s.private.now) (length s.cipher.now) (length s.marks.now) (length s.image.now) chosen ≡ true = c.if-not-private-s.false in
-    let lengths : let s = c.args in let p = chosen in (length s.private.now ≡ p.private) × (length s.cipher.now ≡ p.packed) × (length s.marks.now ≡ p.n) × (length s.image.now ≡ p.packed) = let s = c.args in right (length s.private.now) (length s.cipher.now) (length s.marks.now) (length s.image.now) chosen fit in
-    let i = set in
-    let l = lengths in
-    let n = n_room in record {
-      ready = (record { turns = i.turns; table = c.powers-powers.ensures }, omega (arith, n, i.whole), omega (arith, l.0, i.private, i.packed), l.1 ∙ i.packed);
-      f_len = (
-        part_long _ 1152 _ c.numbers-f.ensures n ∙ i.whole,
-        part_long _ 1152 _ c.numbers-inverse.ensures n ∙ i.whole,
-        part_long _ 1152 _ c.numbers-c.ensures n ∙ i.whole,
-        part_long _ 1152 _ c.numbers-r.ensures n ∙ i.whole,
-      );
-      marks_len = (l.2 ∙ i.whole, l.3 ∙ i.packed);
+    let a = c.args in
+    let s = c.in_ok-s.s in
+    let set : IsSet a.set s = known_set _ _ (sym c.set_of.ensures ∙ c.in_ok-s.ensures.ok_part) in
+    let lengths = c.if-not-image-s.false in
+    record {
+      inputs = (omega (arith, lengths, set.private, set.packed, c.new.ensures), omega (arith, lengths, set.packed, c.new.ensures));
+      outputs = (omega (arith, lengths, set.whole, c.new.ensures), omega (arith, lengths, set.packed, c.new.ensures));
     }
 
-pub returns-in-Unknown : goal.returns-in-Unknown
-unfolding OpenOne open_one_reply leaves
-returns-in-Unknown c =
-    let s = c.args in
-    unknown_set_lem _ s.set _ _ (sym c.set_of.ensures ∙ c.in-Unknown.is) (refl, refl)
-
-pub returns-else-not-private-s : goal.returns-else-not-private-s
-returns-else-not-private-s c =
-    let chosen : Parameters = c.in-Known.s in
-    let known : set_of c.args.set ≡ Known chosen = sym c.set_of.ensures ∙ c.in-Known.is in
-    let fit : let s = c.args in fits (length s.private.now) (length s.cipher.now) (length s.marks.now) (length s.image.now) chosen ≡ true = c.if-not-private-s.false in
-    let s = c.args in
-    owed s.private.now s.cipher.now s.marks.now s.image.now _ _ s.set chosen known fit _
-    c.open_1_in.ensures
+pub returns : goal.returns
+returns c =
+    let a = c.args in
+    let half : c.new.result.half ≡ c.in_ok-s.s.half = c.new.ensures.0 in
+    let step : c.new.result.step ≡ c.in_ok-s.s.step = c.new.ensures.1 in
+    owed a.private.now a.cipher.now a.marks.now a.image.now _ _ a.set c.in_ok-s.s (sym c.set_of.ensures ∙ c.in_ok-s.ensures.ok_part)
+    c.if-not-image-s.false _ (rw (← half, ← step) c.open_1_in.ensures)

@@ -1,68 +1,36 @@
 -- `r_image` keeps its promise: the exits in the order of the numbers, each by what is known there.
 -- Assumes nothing.
-use mathlib.Core.Bool.{true}
+use mathlib.Core.Bool.{false}
 use mathlib.Core.Path.{◌≡◌, refl, sym, ◌∙◌}
-use Prim.Native.Nat.{◌≤◌}
-use native.Mathlib.Omega.{arith}
 use lib.ListN.{length}
-use Rattle.answers.specs.declared.Parameters.{Parameters}
-use Rattle.answers.specs.declared.SetChoice.TheVariants.{Known}
+use Rattle.std.proofs.Common.{rules, arith, Err}
+use Rattle.answers.specs.declared.Refusal.TheVariants.{UnknownSet}
 use Rattle.answers.specs.Replies.{leaves}
-use Rattle.answers.specs.Sets.{set_of}
-use Rattle.rooms.proofs.RoomLaws.{part_long}
 use Rattle.answers.proofs.Exits.{unknown_set_lem, wrong_length_lem}
-use Rattle.answers.proofs.Lengths.{two_lengths}
-use Rattle.answers.proofs.SetLaws.{IsSet, known_set}
+use Rattle.answers.proofs.SetLaws.{known_set}
 use Rattle.calls_r_image.specs.RImage.{r_image_reply, RImage}
-use Rattle.calls_r_image.proofs.RImages.{fits, owed}
+use Rattle.calls_r_image.proofs.RImages.{fits, lengths, owed}
 use Rattle.calls_r_image.proofs.r_image.Goals as goal
 
-pub returns-then-not-hblock-s : goal.returns-then-not-hblock-s
+pub returns-in_err-s : goal.returns-in_err-s
 unfolding RImage r_image_reply leaves
-returns-then-not-hblock-s c =
-    let chosen : Parameters = c.in-Known.s in
-    let known : set_of c.args.set ≡ Known chosen = sym c.set_of.ensures ∙ c.in-Known.is in
-    let s = c.args in
-    wrong_length_lem _ s.set _ _ _ known c.if-not-hblock-s.true refl
+returns-in_err-s c =
+    let refused : c.from_residual.result ≡ Err UnknownSet = search rules in
+    rw refused (unknown_set_lem _ c.args.set _ _ (sym c.set_of.ensures ∙ c.in_err-s.ensures.ok_part) refl)
 
-pub slice_bounds-r-end : goal.slice_bounds-r-end
-slice_bounds-r-end c =
-    let chosen : Parameters = c.in-Known.s in
-    let known : set_of c.args.set ≡ Known chosen = sym c.set_of.ensures ∙ c.in-Known.is in
-    let set : IsSet c.args.set chosen = known_set _ _ known in
-    let n_room : chosen.n ≤ 1152 = set.small in
-    omega (arith, n_room, c.numbers-r.ensures)
+pub returns-then-not-image-s : goal.returns-then-not-image-s
+unfolding RImage r_image_reply leaves
+returns-then-not-image-s c =
+    let wrong : fits (length c.args.hblock.now) (length c.args.image.now) c.in_ok-s.s ≡ false = grind arith in
+    wrong_length_lem _ c.args.set _ _ c.in_ok-s.s (sym c.set_of.ensures ∙ c.in_ok-s.ensures.ok_part) wrong refl
 
-pub slice_bounds-r_image_in-end : goal.slice_bounds-r_image_in-end
-slice_bounds-r_image_in-end c =
-    let chosen : Parameters = c.in-Known.s in
-    let known : set_of c.args.set ≡ Known chosen = sym c.set_of.ensures ∙ c.in-Known.is in
-    let set : IsSet c.args.set chosen = known_set _ _ known in
-    let n_room : chosen.n ≤ 1152 = set.small in
-    sym (part_long _ 1152 _ c.numbers-r.ensures n_room)
+pub new-requires : goal.new-requires
+new-requires c = (known_set c.args.set _ (sym c.set_of.ensures ∙ c.in_ok-s.ensures.ok_part)).turns
 
 pub r_image_in-requires : goal.r_image_in-requires
 r_image_in-requires c =
-    let chosen : Parameters = c.in-Known.s in
-    let known : set_of c.args.set ≡ Known chosen = sym c.set_of.ensures ∙ c.in-Known.is in
-    let set : IsSet c.args.set chosen = known_set _ _ known in
-    let n_room : chosen.n ≤ 1152 = set.small in
-    let fit : let s = c.args in fits (length s.hblock.now) (length s.image.now) chosen ≡ true = c.if-not-hblock-s.false in
-    let lengths : let s = c.args in let p = chosen in (length s.hblock.now ≡ p.hblock) × (length s.image.now ≡ p.packed) = two_lengths _ _ _ _ fit in
-    let i = set in
-    let l = lengths in
-    let n = n_room in record { ready = (record { turns = i.turns; table = c.powers-powers.ensures }, omega (arith, i.eighth, i.words), omega (arith, l.0, i.hblock, i.gblock, i.eighth)); r_len = (part_long _ 1152 _ c.numbers-r.ensures n ∙ i.whole, l.1 ∙ i.packed) }
+    lengths _ _ c.args.set _ (sym c.set_of.ensures ∙ c.in_ok-s.ensures.ok_part) c.if-not-image-s.false c.new.ensures.0
 
-pub returns-in-Unknown : goal.returns-in-Unknown
-unfolding RImage r_image_reply leaves
-returns-in-Unknown c =
-    let s = c.args in
-    unknown_set_lem _ s.set _ _ (sym c.set_of.ensures ∙ c.in-Unknown.is) refl
-
-pub returns-else-not-hblock-s : goal.returns-else-not-hblock-s
-returns-else-not-hblock-s c =
-    let chosen : Parameters = c.in-Known.s in
-    let known : set_of c.args.set ≡ Known chosen = sym c.set_of.ensures ∙ c.in-Known.is in
-    let fit : let s = c.args in fits (length s.hblock.now) (length s.image.now) chosen ≡ true = c.if-not-hblock-s.false in
-    let s = c.args in
-    owed s.hblock.now s.image.now _ s.set chosen known fit c.r_image_in.ensures
+pub returns : goal.returns
+returns c =
+    owed c.args.hblock.now c.args.image.now _ c.args.set _ (sym c.set_of.ensures ∙ c.in_ok-s.ensures.ok_part) c.if-not-image-s.false c.new.ensures c.r_image_in.ensures

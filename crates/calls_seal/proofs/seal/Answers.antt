@@ -1,42 +1,39 @@
 -- `seal` keeps its promise: the exits in the order of the numbers, each by what is known there.
 -- Assumes nothing.
-use mathlib.Core.Bool.{true}
-use mathlib.Core.Path.{◌≡◌, refl, sym, ap, ◌∙◌}
+use mathlib.Core.Bool.{false}
+use mathlib.Core.Path.{◌≡◌, refl, sym, ◌∙◌}
 use lib.ListN.{length}
-use Rattle.answers.specs.declared.Parameters.{Parameters}
-use Rattle.answers.specs.declared.SetChoice.TheVariants.{Known}
+use Rattle.std.proofs.Common.{rules, arith, Err}
+use Rattle.answers.specs.declared.Refusal.TheVariants.{UnknownSet}
 use Rattle.answers.specs.Replies.{leaves}
-use Rattle.answers.specs.Sets.{set_of}
 use Rattle.answers.proofs.Exits.{unknown_set_lem, wrong_length_lem}
 use Rattle.answers.proofs.SetLaws.{known_set}
 use Rattle.calls_seal.specs.Seal.{seal_reply, Seal}
-use Rattle.calls_seal.proofs.Seals.{fits, right, owed}
+use Rattle.calls_seal.proofs.Seals.{fits, lengths, owed}
 use Rattle.calls_seal.proofs.seal.Goals as goal
 
-pub returns-then-not-public-s : goal.returns-then-not-public-s
+pub returns-in_err-s : goal.returns-in_err-s
 unfolding Seal seal_reply leaves
-returns-then-not-public-s c =
-    let chosen : Parameters = c.in-Known.s in
-    let known : set_of c.args.set ≡ Known chosen = sym c.set_of.ensures ∙ c.in-Known.is in
-    let s = c.args in
-    wrong_length_lem _ s.set _ _ _ known c.if-not-public-s.true (refl, refl)
+returns-in_err-s c =
+    let refused : c.from_residual.result ≡ Err UnknownSet = search rules in
+    rw refused (unknown_set_lem _ c.args.set _ _ (sym c.set_of.ensures ∙ c.in_err-s.ensures.ok_part) (refl, refl))
 
-pub seal_known-requires : goal.seal_known-requires
-seal_known-requires c =
-    let chosen : Parameters = c.in-Known.s in
-    let known : set_of c.args.set ≡ Known chosen = sym c.set_of.ensures ∙ c.in-Known.is in
-    let fit : let s = c.args in fits (length s.public.now) (length s.message.now) (length s.hblock.now) (length s.gblock.now) (length s.cipher.now) (length s.key.now) chosen ≡ true = c.if-not-public-s.false in
-    let s = c.args in
-    let p = chosen in record { n_value = ap set_of (known_set s.set p known).size ∙ known; public_len = right (length s.public.now) (length s.message.now) (length s.hblock.now) (length s.gblock.now) (length s.cipher.now) (length s.key.now) p fit }
-
-pub returns-in-Unknown : goal.returns-in-Unknown
+pub returns-then-not-key-s : goal.returns-then-not-key-s
 unfolding Seal seal_reply leaves
-returns-in-Unknown c = unknown_set_lem _ c.args.set _ _ (sym c.set_of.ensures ∙ c.in-Unknown.is) (refl, refl)
+returns-then-not-key-s c =
+    let a = c.args in
+    let wrong : fits (length a.public.now) (length a.message.now) (length a.hblock.now) (length a.gblock.now) (length a.cipher.now) (length a.key.now) c.in_ok-s.s ≡ false = grind arith steps 40000000 in
+    wrong_length_lem _ a.set _ _ c.in_ok-s.s (sym c.set_of.ensures ∙ c.in_ok-s.ensures.ok_part) wrong (refl, refl)
 
-pub returns-else-not-public-s : goal.returns-else-not-public-s
-returns-else-not-public-s c =
-    let chosen : Parameters = c.in-Known.s in
-    let known : set_of c.args.set ≡ Known chosen = sym c.set_of.ensures ∙ c.in-Known.is in
-    let fit : let s = c.args in fits (length s.public.now) (length s.message.now) (length s.hblock.now) (length s.gblock.now) (length s.cipher.now) (length s.key.now) chosen ≡ true = c.if-not-public-s.false in
-    let s = c.args in
-    owed s.public.now s.message.now s.hblock.now s.gblock.now s.cipher.now s.key.now _ _ s.set chosen known fit _ c.seal_known.ensures
+pub new-requires : goal.new-requires
+new-requires c = (known_set c.args.set _ (sym c.set_of.ensures ∙ c.in_ok-s.ensures.ok_part)).turns
+
+pub seal_in-requires : goal.seal_in-requires
+seal_in-requires c =
+    let l = lengths _ _ _ _ _ _ c.args.set _ (sym c.set_of.ensures ∙ c.in_ok-s.ensures.ok_part) c.if-not-key-s.false c.new.ensures.0 in
+    record { blocks = (l.0, l.1, l.2, l.3); buffers = (l.4, l.5, l.6) }
+
+pub returns : goal.returns
+returns c =
+    owed c.args.public.now c.args.message.now c.args.hblock.now c.args.gblock.now c.args.cipher.now c.args.key.now _ _ c.args.set _
+    (sym c.set_of.ensures ∙ c.in_ok-s.ensures.ok_part) c.if-not-key-s.false c.new.ensures _ c.seal_in.ensures

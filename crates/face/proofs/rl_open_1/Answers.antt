@@ -7,6 +7,6 @@ returns c =
     record {
       answer = _;
       kept = c.open_1.ensures;
-      number_is = c.plain.ensures.0;
-      place_is = c.plain.ensures.1;
+      number_is = c.from.ensures.0;
+      place_is = c.from.ensures.1;
     }

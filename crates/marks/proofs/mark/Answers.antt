@@ -1,6 +1,6 @@
 -- `marks::mark` meets its contract: the marks are filled from the left.
 -- Assumes nothing.
-use mathlib.Core.Path.{◌≡◌, refl, sym, ◌∙◌, subst}
+use Rattle.std.proofs.Common.{◌≡◌, refl, sym, ◌∙◌, subst, arith}
 use lib.IntN.{ℤ}
 use mir.Syntax.{w32}
 use mir.Val.{to_z, of_z}
@@ -22,4 +22,4 @@ mark_of-requires c =
     subst Small (sym (kept c.centred_by_three.result small)) small
 
 pub returns : goal.returns
-returns c = fill_end c.loop-i.invariant c.loop-i-test.false ∙ tab_map (λ a. mark_of (centred_by_three a)) 0 _ c.args.list.now c.requires.long
+returns c = fill_end c.loop-i.invariant (omega arith) ∙ tab_map (λ a. mark_of (centred_by_three a)) 0 _ c.args.list.now c.requires.long

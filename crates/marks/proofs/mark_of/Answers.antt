@@ -1,7 +1,6 @@
 -- `marks::mark_of` meets its contract: each small number is tried.
 -- Assumes nothing.
-use mathlib.Core.Path.{◌≡◌, refl}
-use native.Mathlib.Omega.{arith}
+use Rattle.std.proofs.Common.{◌≡◌, refl, rules, arith}
 use lib.IntN.{ℤ}
 use mir.Syntax.{w32}
 use mir.Val.{of_z}
@@ -21,11 +20,12 @@ others : (z : ℤ) → Small z → (of_z w32 z ≡ 0 → ⊥) → (of_z w32 z �
 unfolding mark_of
 others = small_by (λ z. (of_z w32 z ≡ 0 → ⊥) → (of_z w32 z ≡ 1 → ⊥) → 2 ≡ mark_of z) (λ f g. absurd (f refl)) (λ f g. absurd (g refl)) (λ f g. refl)
 
-pub returns-then-value-eq0 : goal.returns-then-value-eq0
-returns-then-value-eq0 c = nothing c.args.value c.requires c.if-value-eq0.true
+-- what an arm says of a signed number has no name of its own, and is found
+pub returns-in-0 : goal.returns-in-0
+returns-in-0 c = nothing c.args.value c.requires (search rules)
 
-pub returns-then-value-eq1 : goal.returns-then-value-eq1
-returns-then-value-eq1 c = one c.args.value c.requires c.if-value-eq1.true
+pub returns-in-1 : goal.returns-in-1
+returns-in-1 c = one c.args.value c.requires (search rules)
 
-pub returns-else-value-eq1 : goal.returns-else-value-eq1
-returns-else-value-eq1 c = others c.args.value c.requires c.if-value-eq0.false c.if-value-eq1.false
+pub returns-in_default : goal.returns-in_default
+returns-in_default c = others c.args.value c.requires (search rules) (search rules)

@@ -9,6 +9,9 @@ use Rattle.powers.proofs.TableLaws.{powers_at}
 use Rattle.powers.proofs.power.Goals as goal
 
 pub returns : goal.returns
-returns c =
+returns c = powers_at c.requires.1 c.args.i c.requires.0
+
+pub invariant_of-result : goal.invariant_of-result
+invariant_of-result c =
     let e : get_or c.args.powers.now c.args.i 0 ≡ powq generator c.args.i = powers_at c.requires.1 c.args.i c.requires.0 in
-    (e, omega (arith, powq_lt generator c.args.i))
+    omega (arith, e, powq_lt generator c.args.i)

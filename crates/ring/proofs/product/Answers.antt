@@ -11,10 +11,10 @@ loop-i-preserved c =
     let s = c.args in
     let l = c.loop-i in
     let taken = c.loop-i-test.true in
-    let first = c.coefficient-first.ensures.0 in
-    let second = c.coefficient-second.ensures.0 in
-    let third = c.coefficient-third.ensures.0 in
-    let fourth = c.coefficient-fourth.ensures.0 in
+    let first = c.coefficient-first.ensures in
+    let second = c.coefficient-second.ensures in
+    let third = c.coefficient-third.ensures in
+    let fourth = c.coefficient-fourth.ensures in
     half_turn l.invariant _ _ taken
     (c.fold_low.ensures ∙ folded_low s.half _ l.i taken first third fourth)
     (c.fold_high.ensures ∙ folded_high s.half _ l.i second third)

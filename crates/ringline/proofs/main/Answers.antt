@@ -1,9 +1,7 @@
 -- `main` lends `line` the bytes that were read, and writes those that it printed: they lie in the output.
 -- Assumes nothing.
 use mathlib.Core.Path.{sym}
-use Prim.Native.Nat.{◌≤◌}
 use native.Mathlib.Omega.{arith}
-use lib.ListN.{length}
 use lib.Seq.{length-take-le}
 use Rattle.line.specs.Line.{Line}
 use Rattle.print.proofs.WriteLaws.{writes_within}
@@ -11,12 +9,8 @@ use Rattle.ringline.proofs.main.Goals as goal
 
 pub slice_bounds-output-end : goal.slice_bounds-output-end
 unfolding Line
-slice_bounds-output-end c =
-    let within : c.line-printed.result ≤ length c.line-printed.new.output = writes_within _ 0 _ _ _ (omega arith) c.line-printed.ensures in
-    within
+slice_bounds-output-end c = writes_within _ 0 _ _ _ (omega arith) c.line-printed.ensures
 
 pub slice_bounds-write_all-end : goal.slice_bounds-write_all-end
 unfolding Line
-slice_bounds-write_all-end c =
-    let within : c.line-printed.result ≤ length c.line-printed.new.output = writes_within _ 0 _ _ _ (omega arith) c.line-printed.ensures in
-    sym (length-take-le _ _ within)
+slice_bounds-write_all-end c = sym (length-take-le _ _ (writes_within _ 0 _ _ _ (omega arith) c.line-printed.ensures))

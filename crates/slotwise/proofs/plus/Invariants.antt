@@ -1,9 +1,7 @@
--- `slotwise::plus` meets its contract: the slots are filled from the left. No step is named here, so that another one in the code is refused for its value.
+-- In `slotwise::plus` each step computes `addq`: another one in the code is refused for its value.
 -- Assumes nothing.
-use lib.ListN.{get_or}
 use Rattle.residue.specs.Field.{addq}
-use Rattle.lists.proofs.Fill.{Fill}
 use Rattle.slotwise.proofs.plus.Given as goal
 
-abbrev pub invariant-loop-i : goal.invariant-loop-i
-invariant-loop-i l = Fill (λ k. addq (get_or l.a k 0) (get_or l.b k 0)) l.n l.out l.i
+abbrev pub ghost-slot_by_slot : goal.ghost-slot_by_slot
+ghost-slot_by_slot a = addq

@@ -1,9 +1,8 @@
--- `slotwise::same` meets its contract: what is kept is whether the first i places agree.
+-- In `slotwise::same` what is kept is whether the places read agree.
 -- Assumes nothing.
-use mathlib.Core.Path.{◌≡◌}
-use Prim.Native.Nat.{◌≤◌}
+use Rattle.std.proofs.Common.{◌≡◌, length}
 use Rattle.lists.specs.Every.{agree}
 use Rattle.slotwise.proofs.same.Given as goal
 
-abbrev pub invariant-loop-i : goal.invariant-loop-i
-invariant-loop-i l = (l.i ≤ l.i-end) × (l.same ≡ agree l.i l.a l.b)
+abbrev pub invariant-loop-x : goal.invariant-loop-x
+invariant-loop-x l = l.same ≡ agree (length l.yielded) l.a l.b

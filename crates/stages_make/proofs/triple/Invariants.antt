@@ -1,9 +1,8 @@
--- `triple` meets its contract: the coefficients are filled from the left.
+-- `triple` meets its contract: the coefficients are tripled from the left, and the others stand as they were.
 -- Assumes nothing.
-use lib.ListN.{get_or}
+use Rattle.std.proofs.Common.{◌≡◌, ◌++◌, map, take, drop}
 use Rattle.residue.specs.Field.{mulq}
-use Rattle.lists.proofs.Fill.{Fill}
 use Rattle.stages_make.proofs.triple.Given as goal
 
-abbrev pub invariant-loop-i : goal.invariant-loop-i
-invariant-loop-i l = Fill (λ k. mulq 3 (get_or l.p k 0)) l.n l.out l.i
+abbrev pub invariant-loop-x : goal.invariant-loop-x
+invariant-loop-x l = l.p ≡ map (mulq 3) (take l.x-index l.fn.p) ++ drop l.x-index l.fn.p

@@ -11,5 +11,6 @@ use Rattle.stages_seal.proofs.r_image.Goals as goal
 pub returns : goal.returns
 unfolding r_image small_r
 returns c =
+    let engine = c.args.engine.now in
     c.sampled_image.ensures
-    ∙ ap (λ l. image_of c.args.half (powq generator c.args.step) (sampled l)) (part_to_end c.args.hblock.now 32)
+    ∙ ap (λ l. image_of engine.half (powq generator engine.step) (sampled l)) (part_to_end c.args.hblock.now 32)

@@ -1,9 +1,7 @@
--- `room::ramp` is safe and ends: the index rises to the length, which stays.
+-- ramp: the places behind hold their own numbers.
 -- Assumes nothing.
-use mathlib.Core.Path.{◌≡◌}
-use Prim.Native.Nat.{◌≤◌}
-use lib.ListN.{length}
+use Rattle.std.proofs.Common.{◌≡◌, ℕ, ◌<◌, get_or}
 use Rattle.bench_rooms.proofs.room.ramp.Given as goal
 
-abbrev pub invariant-loop-i : goal.invariant-loop-i
-invariant-loop-i l = (l.i ≤ l.i-end) × (l.i-end ≡ length l.initial.room) × (length l.room ≡ length l.initial.room)
+abbrev pub invariant-loop-k : goal.invariant-loop-k
+invariant-loop-k l = (j : ℕ) → j < l.k → get_or l.x-items j 0 ≡ j

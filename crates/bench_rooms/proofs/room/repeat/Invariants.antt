@@ -1,9 +1,10 @@
--- `room::repeat` is safe and ends: the index rises to the length, which stays.
+-- repeat: the bytes behind are written, and the rest is as it was.
 -- Assumes nothing.
-use mathlib.Core.Path.{◌≡◌}
-use Prim.Native.Nat.{◌≤◌}
-use lib.ListN.{length}
+use Rattle.std.proofs.Common.{◌≡◌, ℕ, ◌%◌, ◌<◌, ◌≤◌, get_or}
 use Rattle.bench_rooms.proofs.room.repeat.Given as goal
 
-abbrev pub invariant-loop-i : goal.invariant-loop-i
-invariant-loop-i l = (l.i ≤ l.i-end) × (l.i-end ≡ length l.initial.room) × (length l.room ≡ length l.initial.room)
+abbrev pub invariant-loop-k : goal.invariant-loop-k
+invariant-loop-k l = record {
+  bytes : (j : ℕ) → j < l.k → j < l.end → get_or l.room j 0 ≡ get_or l.bytes (j % 3) 0;
+  rest : (j : ℕ) → l.end ≤ j → get_or l.room j 0 ≡ get_or l.fn.room j 0;
+}

@@ -1,30 +1,29 @@
 -- `transform` keeps its promise: a refusal of the tests is handed on, and what passes them is transformed with the set's root.
 -- Assumes nothing.
-use mathlib.Core.Path.{ap, ◌∙◌, subst}
-use lib.ListN.{length}
+use mathlib.Core.Path.{◌≡◌, ◌∙◌}
+use Rattle.std.proofs.Common.{rules, Err}
 use Rattle.algebra.specs.Transform.{image}
-use Rattle.calls_transforms.specs.declared.tests.Tested.TheVariants.{Ready}
-use Rattle.calls_transforms.specs.Tests.{Tells}
+use Rattle.answers.proofs.SetLaws.{IsSet}
 use Rattle.calls_transforms.specs.Transform.{transform_of, Transform}
 use Rattle.calls_transforms.proofs.Tested.{kept, is_set, ready, done}
 use Rattle.calls_transforms.proofs.transform.transform.Goals as goal
 
+pub returns-in_err-s : goal.returns-in_err-s
+unfolding Transform
+returns-in_err-s c =
+    let refused : c.from_residual.result ≡ Err c.in_err-s.field-0.0 = search rules in
+    rw refused (kept c.args.set c.args.a.now c.args.out.now (transform_of c.args.set c.args.a.now) _ c.in_err-s.ensures)
+
+pub new-engine-requires : goal.new-engine-requires
+new-engine-requires c = (is_set c.args.set c.args.a.now c.args.out.now c.in_ok-s.s c.in_ok-s.ensures).turns
+
 pub transform-requires : goal.transform-requires
 transform-requires c =
-    let passed : Tells c.args.set c.args.a.now (length c.args.out.now) (Ready c.in-Ready.s) = subst (Tells c.args.set c.args.a.now (length c.args.out.now)) c.in-Ready.is c.test_list.ensures in
-    ready c.args.set c.args.a.now c.args.out.now c.in-Ready.s passed c.powers-powers.ensures
+    ready c.args.set c.args.a.now c.args.out.now c.in_ok-s.s c.in_ok-s.ensures c.new-engine.ensures.0
 
-pub returns-in-Refused : goal.returns-in-Refused
-unfolding Transform
-returns-in-Refused c =
-    kept c.args.set c.args.a.now c.args.out.now (transform_of c.args.set c.args.a.now) c.in-Refused.answer
-    (subst (Tells c.args.set c.args.a.now (length c.args.out.now)) c.in-Refused.is c.test_list.ensures)
-
-pub returns-in-Ready : goal.returns-in-Ready
+pub returns : goal.returns
 unfolding Transform transform_of
-returns-in-Ready c =
-    let passed : Tells c.args.set c.args.a.now (length c.args.out.now) (Ready c.in-Ready.s) = subst (Tells c.args.set c.args.a.now (length c.args.out.now)) c.in-Ready.is c.test_list.ensures in
-    let t = passed in
-    done c.args.set c.args.a.now c.args.out.now c.in-Ready.s t (λ p. image p.half p.root c.args.a.now) _
-    (c.transform.ensures
-    ∙ ap (λ w. image c.in-Ready.s.half w c.args.a.now) (is_set c.args.set c.args.a.now c.args.out.now c.in-Ready.s t).root)
+returns c =
+    let is : IsSet c.args.set c.in_ok-s.s = is_set c.args.set c.args.a.now c.args.out.now _ c.in_ok-s.ensures in
+    done c.args.set c.args.a.now c.args.out.now _ c.in_ok-s.ensures (λ p. image p.half p.root c.args.a.now) _
+    (c.transform.ensures ∙ rw (c.new-engine.ensures.0, c.new-engine.ensures.1, is.root))

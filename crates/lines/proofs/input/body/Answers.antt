@@ -1,24 +1,17 @@
--- `body` hands back the part of the line after its name, which fits into it.
+-- `body` hands back what stands after the name in a line that an LF ends.
 -- Assumes nothing.
-use mathlib.Core.Path.{ap, ◌∙◌}
-use Prim.Native.Nat.{◌≤◌}
-use native.Mathlib.Omega.{arith}
-use lib.ListN.{length, drop}
-use borrow.Author.Rules.{part_to_end}
-use Rattle.lines.specs.Input.{body}
-use Rattle.lines.proofs.InputLaws.{line_long}
+use Rattle.std.proofs.Common.{◌≡◌, Some, None, position, eqb, arith}
+use Rattle.lists.proofs.FirstLaws.{position_none}
+use Rattle.text.specs.Lines.{lf}
+use Rattle.lines.proofs.InputLaws.{line_open, line_after}
 use Rattle.lines.proofs.input.body.Goals as goal
 
-pub slice_bounds-result-count : goal.slice_bounds-result-count
-slice_bounds-result-count c =
-    let fits : length c.args.name.now ≤ length c.up_to-line.result.now = omega (arith, line_long c.args.name.now c.args.s.now c.requires, ap length c.up_to-line.ensures) in
-    fits
-
-pub slice_bounds-result-start : goal.slice_bounds-result-start
-slice_bounds-result-start c =
-    let fits : length c.args.name.now ≤ length c.up_to-line.result.now = omega (arith, line_long c.args.name.now c.args.s.now c.requires, ap length c.up_to-line.ensures) in
-    fits
+pub returns-in_err-end : goal.returns-in_err-end
+returns-in_err-end c =
+    let none : position (eqb lf) c.args.s.now ≡ None = grind arith in
+    rw c.from_residual.ensures (line_open c.args.name.now c.args.s.now (omega (arith, position_none (eqb lf) c.args.s.now none)))
 
 pub returns : goal.returns
-unfolding body
-returns c = part_to_end c.up_to-line.result.now (length c.args.name.now) ∙ ap (drop (length c.args.name.now)) c.up_to-line.ensures
+returns c =
+    let found : position (eqb lf) c.args.s.now ≡ Some c.in_ok-end.end = grind arith in
+    line_after c.args.name.now c.args.s.now found c.after.result c.after.ensures

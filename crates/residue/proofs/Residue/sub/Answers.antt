@@ -4,10 +4,6 @@ use Rattle.std.proofs.Common.{rules}
 use Rattle.residue.specs.Field.{addq, negq, subq}
 use Rattle.residue.proofs.Residue.sub.Goals as goal
 
-pub returns-then-b-a : goal.returns-then-b-a
+pub returns : goal.returns
 unfolding subq addq negq
-returns-then-b-a c = search rules
-
-pub returns-else-b-a : goal.returns-else-b-a
-unfolding subq addq negq
-returns-else-b-a c = search rules
+returns c = search rules

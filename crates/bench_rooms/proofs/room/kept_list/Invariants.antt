@@ -1,9 +1,0 @@
--- `room::kept_list` is safe and ends: the index rises to the length.
--- Assumes nothing.
-use mathlib.Core.Path.{◌≡◌}
-use Prim.Native.Nat.{◌≤◌}
-use lib.ListN.{length}
-use Rattle.bench_rooms.proofs.room.kept_list.Given as goal
-
-abbrev pub invariant-loop-i : goal.invariant-loop-i
-invariant-loop-i l = (l.i ≤ l.i-end) × (l.i-end ≡ length l.room)

@@ -1,0 +1,54 @@
+-- `halves` keeps its promise: the first part begins where the key does, the second where the first one ends.
+-- Assumes nothing.
+use mathlib.Core.Bool.{false}
+use mathlib.Core.Path.{◌≡◌, refl, sym, ap, ◌∙◌}
+use native.Mathlib.Omega.{arith}
+use lib.ListN.{take, drop}
+use lib.Seq.{length-take-le}
+use borrow.Author.Rules.{part_to_end}
+use Rattle.small.specs.Sampling.{first_half, second_half}
+use Rattle.answers.proofs.SetLaws.{IsSet, known_set}
+use Rattle.calls_halves.specs.Halves.{handed, further}
+use Rattle.calls_halves.proofs.HalvesLaws.{nothing_further, handed_unknown, handed_known, handed_other, middle}
+use Rattle.calls_halves.proofs.halves.halves.Goals as goal
+use Rattle.calls_halves.proofs.halves.halves.Goals.{in_default-via-in-Some+else-key-s, in_default-via-in_default}
+
+pub slice_bounds-result-end : goal.slice_bounds-result-end
+slice_bounds-result-end c =
+    let set : IsSet c.args.set c.in-Some.s = known_set _ _ (sym c.in-Some.ensures) in
+    sym (length-take-le _ _ (omega arith))
+
+pub slice_bounds-result-count : goal.slice_bounds-result-count
+slice_bounds-result-count c =
+    let set : IsSet c.args.set c.in-Some.s = known_set _ _ (sym c.in-Some.ensures) in
+    omega arith
+
+pub slice_bounds-result-start : goal.slice_bounds-result-start
+slice_bounds-result-start c =
+    let set : IsSet c.args.set c.in-Some.s = known_set _ _ (sym c.in-Some.ensures) in
+    omega arith
+
+pub returns-in-Some : goal.returns-in-Some
+unfolding first_half second_half further
+returns-in-Some c =
+    let e = handed_known c.args.set c.args.key.now _ (sym c.in-Some.ensures) c.if-key-s.true in
+    let m = middle c.args.set c.args.key.now _ (sym c.in-Some.ensures) c.if-key-s.true in
+    record {
+      first = record { content = rw e (ap (λ m. take m c.args.key.now) m); lent = refl };
+      second = record {
+        content = rw e (part_to_end c.args.key.now _ ∙ ap (λ m. drop m c.args.key.now) m);
+        lent = rw e (ap (further c.args.key.ref_ptr) m);
+      };
+    }
+
+pub returns-in_default : goal.returns-in_default
+returns-in_default c =
+    let e : handed c.args.set c.args.key.now ≡ false =
+    elim c.in_default.branch [
+      | in_default-via-in-Some+else-key-s w ↦ handed_other c.args.set c.args.key.now _ (sym w.in-Some.ensures) w.if-key-s.false
+      | in_default-via-in_default w ↦ handed_unknown c.args.set c.args.key.now (sym w.in_default.ensures)
+    ] in
+    record {
+      first = record { content = rw e refl; lent = refl };
+      second = record { content = rw e refl; lent = rw e (nothing_further c.args.key.ref_ptr) };
+    }

@@ -1,0 +1,14 @@
+// The two parts of a private key.
+ghost use Rattle.calls_halves.specs.Halves.{FHalf, HHalf};
+
+// Both empty where the set is unknown or the key has another length. The groups are not looked at.
+pub(crate) fn halves(set: usize, key: &[u8]) -> (&[u8], &[u8])
+    ensures first { FHalf set key.now key.entry.ref_ptr result.0.now result.0.ref_ptr }
+    ensures second { HHalf set key.now key.entry.ref_ptr result.1.now result.1.ref_ptr }
+{
+    // Cut by ranges: what `split_at` promises of its parts does not say where they stand.
+    match answers::set_of(set) {
+        Some(s) if key.len() == s.private => (&key[..s.packed], &key[s.packed..]),
+        _ => (&key[..0], &key[..0]),
+    }
+}
