@@ -89,17 +89,35 @@ def twins():
 row("2", "groups of functions of one shape", twins())
 row("3", "loops over a range, while, loop", lines(r"^\s*(while |loop \{)|^\s*for \w+ in .*\.\."))
 row("4", "conversions by `as` that lose nothing", lines(r"\b[a-z_]+(\[[^\]]*\]|\.0)? as (u16|u32|u64|usize|i32)\b"))
-row("4", "printing and conversion by hand", lines(r"fn (name|plain|byte|bytes|number|answer|text|term|wide|width)\("))
+row("4", "printing and conversion by hand", lines(r"fn (name|plain|byte|bytes|number|answer|text|term|wide|width|put_decimal|put_digits)\("))
 row("5", "`x < q` of a residue", lines(r"\b\w+\.(0|value) < q\b"))
 row("5", "`Ready` of half, step and powers", lines(r"^\s*(requires|ensures|pub ghost|ghost [a-z]+:).*\bReady "))
 row("5", "`Powers` of a lent table", lines(r"^\s*(requires|ensures).*Powers generator one"))
 row("5", "half, step and powers side by side", lines(r"half: usize"))
 row("5", "`Residues` of a list", lines(r"^\s*(requires|ensures).*\bResidues "))
 row("5", "`Below` of bits and marks", lines(r"^\s*(requires|ensures).*\bBelow "))
-row("6", "rooms of fixed length", lines(r"rooms::|= room::(bytes|numbers)\("))
+# the crates that make rooms are left out, since those that call them are counted
+made = lines(r"\brooms::|= room::(bytes|numbers)\(|\.room\(\)|= (zeros_but|ramp)\(|\[(\w+::FILL|fill|0x[0-9A-F]+|[0-9]+(u8|u16)?); [\w:]+\]")
+row("6", "rooms of fixed length: each array of one value, and each call that gives one", [place for place in made if "rooms/src/" not in place])
 row("6", "a lent room beside what is written", lines(r"^\s*(halves|bits|p|q|r|c|f|g|h|inverse|lent): &mut \[u(8|16)\]"))
 row("6", "a place beside the buffer", lines(r"at: usize, out: &mut \[u8\]"))
-row("7", "a switch over the calls", lines(r"match call\b"))
+
+
+# 7. `match self` is of the type that the impl above names. The function above tells what only prints a call's name.
+def switches():
+    found = []
+    for name, text in sources.items():
+        head = function = ""
+        for i, line in enumerate(text):
+            head = line if line.startswith("impl") else head
+            function = line if re.match(r"\s*(pub )?fn \w+", line) else function
+            over = re.search(r"match (self\.)?call\b", line) or (re.search(r"match self \{", line) and re.search(r"\bCall \{", head))
+            if over and not re.search(r"fn (name|fmt)\b", function):
+                found.append(f"{name}:{i + 1}: {line.strip()}")
+    return found
+
+
+row("7", "a switch over the calls: a `match` of a call, but for the one that prints its name", switches())
 repeated = []
 for name, text in answers.items():
     seen = defaultdict(int)

@@ -8,7 +8,7 @@ use native.Mathlib.Omega.{arith}
 use lib.Dec.{ltb}
 use lib.ListN.{length}
 use borrow.Author.Tests.{lt-ltb, le-ltb}
-use Rattle.std.proofs.Common.{Some, None, Ok, Err, position}
+use Rattle.std.proofs.Common.{Option, Some, None, Ok, Err, position}
 use Rattle.lists.specs.First.{first_through}
 use Rattle.residue.specs.Large.{too_large}
 use Rattle.answers.specs.declared.Refusal.TheVariants.{UnknownSet, WrongLength, TooLarge}
@@ -73,6 +73,10 @@ module _ (Holds : Reply → Type 0) where
     unknown_set_lem e h =
         subst (λ R. Outcome R (Err UnknownSet) Holds) (sym (ap (λ c. for_set c (reply 1 0) (λ s. cond (fits s) (rest s) (reply 2 0))) e))
         (record { number = refl; place = refl; content = h })
+
+    -- the same by what the call's own look at the set finds
+    pub unknown_exit : {o : Option Parameters} {r : Answer} → r ≡ Err UnknownSet → o ≡ set_of set → o ≡ None → Holds (reply 1 0) → Owed r
+    unknown_exit refused made none h = rw refused (unknown_set_lem (sym made ∙ none) h)
 
     module _ (s : Parameters) (e : set_of set ≡ Some s) where
       -- 2 where a length is wrong

@@ -6,7 +6,7 @@ ghost use Rattle.std.specs.Option.{option_or};
 ghost use Rattle.answers.specs.Answers.{number_of, place_of};
 ghost use Rattle.answers.specs.Sets.{set_of};
 
-// Why a call was not done. A case holds what document 01 gives it: nothing, or the place.
+// Why a call was not done. A case holds what goes with it: nothing, or the place.
 #[derive(Clone, Copy, PartialEq, Eq)]
 pub enum Refusal {
     UnknownSet,
@@ -18,7 +18,7 @@ pub enum Refusal {
     Malformed(usize),
 }
 
-// Done, or why not. Two numbers come of it, document 01's number and the place, so neither is a `From`.
+// Done, or why not. Two numbers come of it, its number and its place, so neither is a `From`.
 pub type Answer = Result<(), Refusal>;
 
 impl Refusal {
@@ -52,19 +52,13 @@ impl Refusal {
 pub fn number(answer: Answer) -> usize
     ensures { result ≡ number_of answer }
 {
-    match answer {
-        Ok(()) => 0,
-        Err(refusal) => refusal.number(),
-    }
+    answer.err().map_or(0, Refusal::number)
 }
 
 pub fn place(answer: Answer) -> usize
     ensures { result ≡ place_of answer }
 {
-    match answer {
-        Ok(()) => 0,
-        Err(refusal) => refusal.place(),
-    }
+    answer.err().map_or(0, Refusal::place)
 }
 
 // What a set number decides: n, half of it, the slots, the root and the step with root = 7^step, and every length of the table of calls.

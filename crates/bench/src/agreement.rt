@@ -7,30 +7,30 @@ use calls_halves::h_half::h_half;
 use std::fmt;
 
 // The pair of a seed block that is zero but for the byte where its second half begins: with 1 the bench pair.
-fn pair(set: Parameters, byte: u8, public: &mut [u8], private: &mut [u8]) -> Answer {
-    let seed = Input::ZerosBut(&[(set.seed / 2, byte)]).room();
+fn pair(s: Parameters, byte: u8, public: &mut [u8], private: &mut [u8]) -> Answer {
+    let seed = Input::ZerosBut(&[(s.seed / 2, byte)]).room();
     calls_make::make(
-        set.n,
-        part(&seed, set.seed),
-        part_mut(public, set.packed),
-        part_mut(private, set.private),
+        s.n,
+        part(&seed, s.seed),
+        part_mut(public, s.packed),
+        part_mut(private, s.private),
     )
 }
 
 // The seed block of zeros, and the bench pair.
-pub fn make(out: &mut impl fmt::Write, set: Parameters) -> fmt::Result {
+pub fn make(out: &mut impl fmt::Write, s: Parameters) -> fmt::Result {
     let mut public = [u8::FILL; BYTES];
     let mut private = [u8::FILL; BYTES];
-    let answer = pair(set, 0, &mut public, &mut private);
+    let answer = pair(s, 0, &mut public, &mut private);
     let outcome = Outcome {
         answer,
         kept: kept(&public) && kept(&private),
     };
     writeln!(out, "make zeros: {outcome}")?;
-    let answer = pair(set, 1, &mut public, &mut private);
-    writeln!(out, "make byte {}: {}", set.seed / 2, Answered(answer))?;
-    writeln!(out, "public: {}", triples(part(&public, set.packed)))?;
-    halves(out, "private", set.n, part(&private, set.private))
+    let answer = pair(s, 1, &mut public, &mut private);
+    writeln!(out, "make byte {}: {}", s.seed / 2, Answered(answer))?;
+    writeln!(out, "public: {}", triples(part(&public, s.packed)))?;
+    halves(out, "private", s.n, part(&private, s.private))
 }
 
 fn triples(bytes: &[u8]) -> Periods {
@@ -70,23 +70,23 @@ pub const PLAIN: Exchange<'static> = Exchange {
 };
 
 impl Exchange<'_> {
-    pub fn run(self, out: &mut impl fmt::Write, set: Parameters) -> fmt::Result {
+    pub fn run(self, out: &mut impl fmt::Write, s: Parameters) -> fmt::Result {
         let mut public = [u8::FILL; BYTES];
         let mut private = [u8::FILL; BYTES];
-        let answer = pair(set, 1, &mut public, &mut private);
+        let answer = pair(s, 1, &mut public, &mut private);
         writeln!(out, "make: {}", Answered(answer))?;
         let cipher = match self.cipher {
             Some(cipher) => cipher.room(),
-            None => self.seal(out, set, &public)?,
+            None => self.seal(out, s, &public)?,
         };
-        self.open(out, set, &private, &cipher)
+        self.open(out, s, &private, &cipher)
     }
 
     // Seals, and prints the ciphertext and the key.
     fn seal(
         self,
         out: &mut impl fmt::Write,
-        set: Parameters,
+        s: Parameters,
         public: &[u8],
     ) -> Result<[u8; BYTES], fmt::Error> {
         let message = self.message.room();
@@ -95,17 +95,17 @@ impl Exchange<'_> {
         let mut cipher = [u8::FILL; BYTES];
         let mut key = [u8::FILL; BYTES];
         let answer = calls_seal::seal(
-            set.n,
-            part(public, set.packed),
-            part(&message, set.message),
-            part(&hblock, set.hblock),
-            part(&gblock, set.gblock),
-            part_mut(&mut cipher, set.packed),
-            part_mut(&mut key, set.key),
+            s.n,
+            part(public, s.packed),
+            part(&message, s.message),
+            part(&hblock, s.hblock),
+            part(&gblock, s.gblock),
+            part_mut(&mut cipher, s.packed),
+            part_mut(&mut key, s.key),
         );
         writeln!(out, "seal: {}", Answered(answer))?;
-        writeln!(out, "cipher: {}", triples(part(&cipher, set.packed)))?;
-        writeln!(out, "key: {}", Places(part(&key, set.key)))?;
+        writeln!(out, "cipher: {}", triples(part(&cipher, s.packed)))?;
+        writeln!(out, "key: {}", Places(part(&key, s.key)))?;
         Ok(cipher)
     }
 
@@ -113,49 +113,49 @@ impl Exchange<'_> {
     fn open(
         self,
         out: &mut impl fmt::Write,
-        set: Parameters,
+        s: Parameters,
         private: &[u8],
         cipher: &[u8],
     ) -> fmt::Result {
         let mut marks = [u8::FILL; BYTES];
         let mut image = [u8::FILL; BYTES];
         let answer = calls_open_1::open_1(
-            set.n,
-            part(private, set.private),
-            part(cipher, set.packed),
-            part_mut(&mut marks, set.n),
-            part_mut(&mut image, set.packed),
+            s.n,
+            part(private, s.private),
+            part(cipher, s.packed),
+            part_mut(&mut marks, s.n),
+            part_mut(&mut image, s.packed),
         );
         writeln!(out, "open-1: {}", Answered(answer))?;
-        writeln!(out, "marks: {}", Places(part(&marks, set.n)))?;
-        writeln!(out, "image: {}", triples(part(&image, set.packed)))?;
-        self.open_message(out, set, &marks)?;
-        self.open_key(out, set, &image)
+        writeln!(out, "marks: {}", Places(part(&marks, s.n)))?;
+        writeln!(out, "image: {}", triples(part(&image, s.packed)))?;
+        self.open_message(out, s, &marks)?;
+        self.open_key(out, s, &image)
     }
 
-    fn open_message(self, out: &mut impl fmt::Write, set: Parameters, marks: &[u8]) -> fmt::Result {
+    fn open_message(self, out: &mut impl fmt::Write, s: Parameters, marks: &[u8]) -> fmt::Result {
         let gblock = self.gblock.room();
         let mut message = [u8::FILL; BYTES];
         let answer = calls_open_2::open_2(
-            set.n,
-            part(marks, set.n),
-            part(&gblock, set.gblock),
-            part_mut(&mut message, set.message),
+            s.n,
+            part(marks, s.n),
+            part(&gblock, s.gblock),
+            part_mut(&mut message, s.message),
         );
         writeln!(out, "open-2: {}", Answered(answer))?;
-        writeln!(out, "message: {}", Places(part(&message, set.message)))
+        writeln!(out, "message: {}", Places(part(&message, s.message)))
     }
 
-    fn open_key(self, out: &mut impl fmt::Write, set: Parameters, image: &[u8]) -> fmt::Result {
+    fn open_key(self, out: &mut impl fmt::Write, s: Parameters, image: &[u8]) -> fmt::Result {
         let hblock = self.hblock.room();
         let mut key = [u8::FILL; BYTES];
         let answer = calls_open_3::open_3(
-            set.n,
-            part(image, set.packed),
-            part(&hblock, set.hblock),
-            part_mut(&mut key, set.key),
+            s.n,
+            part(image, s.packed),
+            part(&hblock, s.hblock),
+            part_mut(&mut key, s.key),
         );
         writeln!(out, "open-3: {}", Answered(answer))?;
-        writeln!(out, "key: {}", Places(part(&key, set.key)))
+        writeln!(out, "key: {}", Places(part(&key, s.key)))
     }
 }

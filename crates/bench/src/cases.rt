@@ -6,10 +6,10 @@ use bench_rooms::room::Input::{Counting, Triples, ZerosBut};
 use std::fmt;
 
 // The bench values of document 01 that are not marked: all zero but for byte 32 of the H block, which makes r = 1.
-pub fn bench_values(out: &mut impl fmt::Write, set: Parameters) -> fmt::Result {
-    agreement::make(out, set)?;
+pub fn bench_values(out: &mut impl fmt::Write, s: Parameters) -> fmt::Result {
+    agreement::make(out, s)?;
     let hblock = ZerosBut(&[(32, 1)]);
-    Exchange { hblock, ..PLAIN }.run(out, set)
+    Exchange { hblock, ..PLAIN }.run(out, s)
 }
 
 // Messages with a bit in the last block, a G block with one in its second half, key bytes, and another ciphertext.
@@ -36,14 +36,14 @@ pub fn agreements(out: &mut impl fmt::Write, small: Parameters, large: Parameter
     other_ciphertext.run(out, large)
 }
 
-fn message_byte(out: &mut impl fmt::Write, set: Parameters, place: usize, byte: u8) -> fmt::Result {
+fn message_byte(out: &mut impl fmt::Write, s: Parameters, place: usize, byte: u8) -> fmt::Result {
     let message = ZerosBut(&[(place, byte)]);
-    Exchange { message, ..PLAIN }.run(out, set)
+    Exchange { message, ..PLAIN }.run(out, s)
 }
 
-fn gblock_byte(out: &mut impl fmt::Write, set: Parameters, place: usize) -> fmt::Result {
+fn gblock_byte(out: &mut impl fmt::Write, s: Parameters, place: usize) -> fmt::Result {
     let gblock = ZerosBut(&[(place, 1)]);
-    Exchange { gblock, ..PLAIN }.run(out, set)
+    Exchange { gblock, ..PLAIN }.run(out, s)
 }
 
 // Keys of the right length, and of others.

@@ -67,22 +67,22 @@ pub fn product(
 }
 
 // The r that an H block with one byte gives, as the reverse of its image.
-pub fn sampled(out: &mut impl fmt::Write, set: Parameters, at: usize, byte: u8) -> fmt::Result {
+pub fn sampled(out: &mut impl fmt::Write, s: Parameters, at: usize, byte: u8) -> fmt::Result {
     let hblock = Input::ZerosBut(&[(at, byte)]).room();
     let mut packed = [u8::FILL; BYTES];
     let mut image = [u16::FILL; NUMBERS];
     let mut r = [u16::FILL; NUMBERS];
     let answer = calls_r_image::r_image(
-        set.n,
-        part(&hblock, set.hblock),
-        part_mut(&mut packed, set.packed),
+        s.n,
+        part(&hblock, s.hblock),
+        part_mut(&mut packed, s.packed),
     );
     writeln!(out, "r-image: {}", Answered(answer))?;
     unpack(&packed, &mut image);
-    let answer = reverse(set.n, part(&image, set.n), part_mut(&mut r, set.n));
+    let answer = reverse(s.n, part(&image, s.n), part_mut(&mut r, s.n));
     writeln!(out, "r: {}", Answered(answer))?;
     let terms = Terms {
-        list: part(&r, set.n),
+        list: part(&r, s.n),
         from: 0,
     };
     writeln!(out, "{terms}")

@@ -1,6 +1,7 @@
 // The nine calls whose row document 01's table of calls has.
 use std::fmt;
 
+// An enum, and not nine impls of a trait or nine closures: one table of lengths is read at a glance, and no function pointer may be handed out.
 #[derive(Clone, Copy)]
 pub enum Call {
     Product,
@@ -26,21 +27,33 @@ pub const CALLS: [Call; 9] = [
     Call::OpenThree,
 ];
 
+// Where the outputs stand in a row of lengths.
+pub const OUTPUT: usize = 4;
+
+pub const OTHER_OUTPUT: usize = 5;
+
 impl Call {
-    // The row for n: the lengths of the inputs, and from 4 on those of the outputs. It is 0 for a buffer that the call has not.
-    pub fn lengths(self, n: u16) -> [usize; 6] {
+    // The row for n: the lengths of up to four inputs, and of the outputs.
+    pub fn lengths(self, n: u16) -> [Option<usize>; 6] {
         let n = usize::from(n);
         let packed = n / 2 * 3;
         match self {
-            Call::Product => [n, n, 0, 0, n, 0],
-            Call::Transform => [n, 0, 0, 0, n, 0],
-            Call::Reverse => [n, 0, 0, 0, n, 0],
-            Call::Make => [n / 2, 0, 0, 0, packed, n * 3],
-            Call::RImage => [32 + n / 4, 0, 0, 0, packed, 0],
-            Call::Seal => [packed, n / 8, 32 + n / 4, n / 4, packed, 32],
-            Call::OpenOne => [n * 3, packed, 0, 0, n, packed],
-            Call::OpenTwo => [n, n / 4, 0, 0, n / 8, 0],
-            Call::OpenThree => [packed, 32 + n / 4, 0, 0, 32, 0],
+            Call::Product => [Some(n), Some(n), None, None, Some(n), None],
+            Call::Transform => [Some(n), None, None, None, Some(n), None],
+            Call::Reverse => [Some(n), None, None, None, Some(n), None],
+            Call::Make => [Some(n / 2), None, None, None, Some(packed), Some(n * 3)],
+            Call::RImage => [Some(32 + n / 4), None, None, None, Some(packed), None],
+            Call::Seal => [
+                Some(packed),
+                Some(n / 8),
+                Some(32 + n / 4),
+                Some(n / 4),
+                Some(packed),
+                Some(32),
+            ],
+            Call::OpenOne => [Some(n * 3), Some(packed), None, None, Some(n), Some(packed)],
+            Call::OpenTwo => [Some(n), Some(n / 4), None, None, Some(n / 8), None],
+            Call::OpenThree => [Some(packed), Some(32 + n / 4), None, None, Some(32), None],
         }
     }
 }

@@ -1,5 +1,5 @@
 // What is tried.
-use crate::call::{CALLS, Call};
+use crate::call::{CALLS, Call, OTHER_OUTPUT, OUTPUT};
 use crate::trial::{Off, Trial};
 use bench_rooms::room::Input::{Filled, ZerosBut};
 use bench_rooms::room::ZEROS;
@@ -65,12 +65,12 @@ pub fn others(out: &mut impl fmt::Write) -> fmt::Result {
 // A length, and what would be refused besides.
 fn two_refusals(out: &mut impl fmt::Write) -> fmt::Result {
     Trial::new(Call::Make, 768, 0).run_on(out, ZEROS, ZEROS)?;
-    let make = Trial::small(Call::Make).but(4, Off::Above);
+    let make = Trial::small(Call::Make).but(OUTPUT, Off::Above);
     make.run_on(out, ZEROS, ZEROS)?;
-    let seal = Trial::small(Call::Seal).but(5, Off::Above);
+    let seal = Trial::small(Call::Seal).but(OTHER_OUTPUT, Off::Above);
     seal.run_on(out, ZerosBut(&[(11, 255)]), ZEROS)?;
-    let open = Trial::large(Call::OpenOne).but(5, Off::Above);
+    let open = Trial::large(Call::OpenOne).but(OTHER_OUTPUT, Off::Above);
     open.run_on(out, ZerosBut(&[(3455, 255)]), Filled(255))?;
-    let open = Trial::small(Call::OpenThree).but(4, Off::Above);
+    let open = Trial::small(Call::OpenThree).but(OUTPUT, Off::Above);
     open.run_on(out, ZerosBut(&[(863, 255)]), ZerosBut(&[(175, 128)]))
 }

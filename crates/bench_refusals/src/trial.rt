@@ -45,10 +45,10 @@ impl Trial {
         }
     }
 
-    fn lengths(self) -> [usize; 6] {
+    fn lengths(self) -> [Option<usize>; 6] {
         let mut lengths = self.call.lengths(self.n);
         if let Some((buffer, off)) = self.off {
-            if let Some(length) = lengths.get_mut(buffer) {
+            if let Some(Some(length)) = lengths.get_mut(buffer) {
                 *length = match off {
                     Off::Below => length.saturating_sub(1),
                     Off::Above => length.saturating_add(1),
@@ -61,7 +61,8 @@ impl Trial {
     // A call on bytes has these first two inputs, and zeros as further ones; a call on lists has ones.
     fn outcome(self, first: Input, second: Input) -> Outcome {
         let set = self.set;
-        let [a, b, c, d, e, f] = self.lengths();
+        // a length that the call has not gets 0, and its arm lends no such buffer
+        let [a, b, c, d, e, f] = self.lengths().map(Option::unwrap_or_default);
         let ones = [1u16; NUMBERS];
         let first = first.room();
         let second = second.room();
@@ -154,7 +155,7 @@ impl Trial {
         let lent = lengths
             .iter()
             .enumerate()
-            .filter(|(_, length)| 0 < **length);
+            .filter(|(_, length)| length.is_some());
         for (number, (buffer, _)) in lent.enumerate() {
             let below = self.but(buffer, Off::Below).usual();
             writeln!(out, "{self} buffer {number} -1: {below}")?;

@@ -1,4 +1,4 @@
-// Rooms for the buffers of a call. Each is long enough for one place more than the larger set asks for.
+// Rooms for the buffers of a call: arrays, as a controller with no allocator lends them. Each is long enough for one place more than the larger set asks for.
 ghost use Rattle.std.specs.Prelude.{◌≡◌, ◌↔◌, ℕ, ◌+◌, ◌*◌, ◌/◌, ◌%◌, ◌<◌, ◌≤◌, ◌==◌, All, EachIndex, IsTrue, length, replicate, slice_index, slice_set, take, take_while, zip};
 ghost use Rattle.std.proofs.Common.{rules, true};
 ghost use Rattle.bench_rooms.specs.Rooms.{IsRoomOf, number_at, stored, unpacked_count};
@@ -154,7 +154,7 @@ fn number(packed: &[u8], k: usize) -> u16
     }
 }
 
-// The numbers of a packed image, as many pairs as both have.
+// The numbers of a packed image, as many pairs as both have. It reads by code of its own what the library packed, and calls nothing of `packing`.
 pub fn unpack(packed: &[u8], out: &mut [u16])
     ensures numbers { (k : ℕ) → k < unpacked_count (length packed.now) (length out.old) → slice_index out.new k ≡ number_at packed.now k }
     ensures rest { (k : ℕ) → unpacked_count (length packed.now) (length out.old) ≤ k → slice_index out.new k ≡ slice_index out.old k }

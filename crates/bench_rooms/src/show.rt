@@ -30,7 +30,7 @@ impl fmt::Display for Answered {
     }
 }
 
-// An answer, and what became of the outputs.
+// An answer, and whether the outputs were kept: a yes or a no, and no value goes with it.
 #[derive(Clone, Copy)]
 pub struct Outcome {
     pub answer: Answer,

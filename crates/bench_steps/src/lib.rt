@@ -5,12 +5,12 @@
 ghost use Rattle.std.specs.Prelude.{IsTrue};
 ghost use Rattle.residue.specs.Residues.{Residues};
 
-use residue::scan;
+use residue::scan::first_large;
 
 fn are_residues(list: &[u16], n: usize) -> bool
     ensures { IsTrue result → Residues n list.now }
 {
-    list.len() == n && scan::first_large(list).is_none()
+    list.len() == n && first_large(list).is_none()
 }
 
 #[unsafe(no_mangle)]

@@ -47,7 +47,7 @@ fn list_block(bytes: &[u8], bits: &mut [u8])
     ensures { bits.new ≡ listed_block (length bits.old) bytes.now }
 {
     let width = bits.len() / 16;
-    // By places and not by `chunks_exact_mut`: of what is written through that, a proof learns nothing.
+    // By places and not by `chunks_exact_mut`: of what is written through that, a proof knows no more than the length.
     for l in 0..16 {
         list_row(bytes, l, &mut bits[l * width..(l + 1) * width]);
     }
@@ -60,7 +60,7 @@ pub fn list(bytes: &[u8], bits: &mut [u8])
 {
     let n = bits.len();
     let mut at = 0;
-    // The width changes from block to block, and no range steps so: the place goes on by hand.
+    // The width changes from block to block, and no range steps so: the place goes on by hand. An iterator over the blocks would be longer.
     while at < n {
         let end = at + first_block(n - at);
         list_block(&bytes[at / 8..end / 8], &mut bits[at..end]);
@@ -73,7 +73,7 @@ fn gather(bits: &[u8], at: usize, stride: usize) -> u8
     requires { (at + 7 * stride < length bits.now) × Below 2 bits.now }
     ensures { result ≡ number 8 (λ b. get_or bits.now (at + b * stride) 0) }
 {
-    // A loop and no `fold`: that the byte fits is not found of a closure.
+    // A loop and no `fold`: no proof was found that the byte fits, with a closure.
     let mut byte = 0;
     for b in (0..8).rev() {
         byte = 2 * byte + bits[at + b * stride];

@@ -1,9 +1,9 @@
 // A seed block to a pair of keys.
 #![tactic(auto)]
 
-ghost use Rattle.std.specs.Prelude.{[], ◌∷◌, ◌≡◌, ◌+◌, ◌*◌, ◌%◌, ◌≤◌, length};
-ghost use Rattle.residue.specs.Field.{generator, powq};
+ghost use Rattle.std.specs.Prelude.{[], ◌∷◌, ◌≡◌, ◌+◌, ◌*◌, ◌%◌, length};
 ghost use Rattle.algebra.specs.SlotBySlot.{is_zero};
+ghost use Rattle.slots.specs.Engines.{root};
 ghost use Rattle.answers.specs.Replies.{reply, leaves, Outcome};
 ghost use Rattle.answers.specs.Tests.{at_first};
 ghost use Rattle.stages.specs.Making.{small_f, small_g, f_image, g_image, public_key, private_key};
@@ -16,7 +16,7 @@ use slots::Engine;
 fn make_in(engine: &Engine, seed: &[u8], public: &mut [u8], private: &mut [u8]) -> Answer
     requires seed_fits { (engine.now.half ≡ length seed.now) × (engine.now.half % 16 ≡ 0) }
     requires keys_fit { (length public.old ≡ 3 * engine.now.half) × (length private.old ≡ 3 * engine.now.half + 3 * engine.now.half) }
-    ensures { Outcome (at_first 4 is_zero (f_image engine.now.half (powq generator engine.now.step) (small_f seed.now) ∷ g_image engine.now.half (powq generator engine.now.step) (small_g seed.now) ∷ []) (reply 0 0)) result (λ R. (public.new ≡ leaves R (public_key engine.now.half (powq generator engine.now.step) seed.now) public.old) × (private.new ≡ leaves R (private_key engine.now.half (powq generator engine.now.step) seed.now) private.old)) }
+    ensures { Outcome (at_first 4 is_zero (f_image engine.now.half (root engine.now) (small_f seed.now) ∷ g_image engine.now.half (root engine.now) (small_g seed.now) ∷ []) (reply 0 0)) result (λ R. (public.new ≡ leaves R (public_key engine.now.half (root engine.now) seed.now) public.old) × (private.new ≡ leaves R (private_key engine.now.half (root engine.now) seed.now) private.old)) }
 {
     let n = engine.half + engine.half;
     let mut first = rooms::numbers();

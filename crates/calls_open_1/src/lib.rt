@@ -3,10 +3,10 @@
 
 ghost use Rattle.std.specs.Prelude.{[], ◌∷◌, ◌≡◌, ◌+◌, ◌*◌, ◌/◌, ◌%◌, ◌≤◌, length, position};
 ghost use mathlib.Core.List.{flatten};
-ghost use Rattle.residue.specs.Field.{generator, powq};
 ghost use Rattle.residue.specs.Large.{too_large};
 ghost use Rattle.small.specs.Sampling.{first_half, second_half};
 ghost use Rattle.packing.specs.Packing.{groups};
+ghost use Rattle.slots.specs.Engines.{size, root};
 ghost use Rattle.answers.specs.Replies.{reply, leaves, Outcome};
 ghost use Rattle.answers.specs.Tests.{in_range};
 ghost use Rattle.stages.specs.Opening.{opened_marks, opened_image};
@@ -47,8 +47,8 @@ fn open_1_in(
     image: &mut [u8],
 ) -> Answer
     requires inputs { (length private.now ≡ 3 * engine.now.half + 3 * engine.now.half) × (length cipher.now ≡ 3 * engine.now.half) }
-    requires outputs { (length marks.old ≡ engine.now.half + engine.now.half) × (length image.old ≡ 3 * engine.now.half) }
-    ensures { Outcome (in_range (groups private.now ∷ groups cipher.now ∷ []) (reply 0 0)) result (λ R. (marks.new ≡ leaves R (opened_marks engine.now.half (powq generator engine.now.step) private.now cipher.now) marks.old) × (image.new ≡ leaves R (opened_image engine.now.half (powq generator engine.now.step) private.now cipher.now) image.old)) }
+    requires outputs { (length marks.old ≡ size engine.now) × (length image.old ≡ 3 * engine.now.half) }
+    ensures { Outcome (in_range (groups private.now ∷ groups cipher.now ∷ []) (reply 0 0)) result (λ R. (marks.new ≡ leaves R (opened_marks engine.now.half (root engine.now) private.now cipher.now) marks.old) × (image.new ≡ leaves R (opened_image engine.now.half (root engine.now) private.now cipher.now) image.old)) }
 {
     let n = engine.half + engine.half;
     let mut first = rooms::numbers();

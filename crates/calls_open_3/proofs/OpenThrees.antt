@@ -30,10 +30,10 @@ fits image hblock key s = eqb image s.packed && (eqb hblock s.hblock && eqb key 
 
 -- the lengths that `open_3_in` asks, at the set's own half
 pub lengths : (image hblock key set : ℕ) (s : Parameters) → set_of set ≡ Some s → (image ≡ s.packed) × (hblock ≡ s.hblock) × (key ≡ s.key)
-    → {h : ℕ} → h ≡ s.half → (h % 16 ≡ 0) × (hblock + hblock ≡ 64 + h) × (image ≡ 3 * h) × (key ≡ 32)
+    → {h : ℕ} → h ≡ s.half → ((h % 16 ≡ 0) × (hblock + hblock ≡ 64 + h)) × (image ≡ 3 * h) × (key ≡ 32)
 lengths image hblock key set s known long e =
     let is_set : IsSet set s = known_set set s known in
-    (omega arith, omega arith, omega arith, omega arith)
+    ((omega arith, omega arith), omega arith, omega arith)
 
 module _ (image hblock key key' : List ℕ) where
   -- what is answered once no group is too large, with h = n/2 and the root w

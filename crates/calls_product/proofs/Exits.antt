@@ -15,10 +15,9 @@ use Rattle.residue.specs.Residues.{Residues}
 use Rattle.algebra.specs.Numbers.{residues}
 use Rattle.algebra.specs.Product.{product}
 use Rattle.answers.specs.declared.Parameters.{Parameters}
-use Rattle.answers.specs.declared.Refusal.TheVariants.{UnknownSet, WrongLength, TooLarge}
+use Rattle.answers.specs.declared.Refusal.TheVariants.{WrongLength, TooLarge}
 use Rattle.answers.specs.Replies.{Reply, reply, leaves}
-use Rattle.answers.specs.Sets.{set_of, for_set}
-use Rattle.answers.specs.Tests.{in_order}
+use Rattle.answers.specs.Sets.{set_of}
 use Rattle.lists.proofs.FirstLaws.{through_clear}
 use Rattle.residue.proofs.LargeLaws.{residues_through}
 use Rattle.answers.proofs.Counting.{counted, counted_one, counts_on}
@@ -34,10 +33,6 @@ through_both a b long ef er e = counted too_large a (b ∷ []) long ef (counted_
 module _ (set : ℕ) (a b before : List ℕ) where
   abbrev Holds : List ℕ → Reply → Type 0
   Holds after R = after ≡ leaves R (product_of set a b) before
-
-  pub unknown_set : set_of set ≡ None → Product set a b before (Err UnknownSet) before
-  unfolding Product product_reply in_order for_set leaves
-  unknown_set e = rw e (record { number = refl; place = refl; content = refl })
 
   module _ (s : Parameters) (known : set_of set ≡ Some s) where
     pub wrong_length : (eqb (length a) s.n && (eqb (length b) s.n && eqb (length before) s.n)) ≡ false → Product set a b before (Err WrongLength) before

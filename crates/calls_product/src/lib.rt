@@ -4,7 +4,7 @@
 ghost use Rattle.calls_product.specs.Product.{Product};
 
 use answers::{Answer, Refusal};
-use residue::scan;
+use residue::scan::first_large;
 
 pub fn product(set: usize, a: &[u16], b: &[u16], out: &mut [u16]) -> Answer
     ensures { Product set a.now b.now out.old result out.new }
@@ -13,7 +13,7 @@ pub fn product(set: usize, a: &[u16], b: &[u16], out: &mut [u16]) -> Answer
     if !(a.len() == s.n && b.len() == s.n && out.len() == s.n) {
         return Err(Refusal::WrongLength);
     }
-    if let Some(at) = answers::through(s.n, scan::first_large(a), scan::first_large(b)) {
+    if let Some(at) = answers::through(s.n, first_large(a), first_large(b)) {
         return Err(Refusal::TooLarge(at));
     }
     ring::product(s.half, a, b, out);

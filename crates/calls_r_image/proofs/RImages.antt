@@ -25,10 +25,10 @@ fits hblock image s = eqb hblock s.hblock && eqb image s.packed
 
 -- the lengths that `r_image_in` asks, at the set's own half
 pub lengths : (hblock image set : ℕ) (s : Parameters) → set_of set ≡ Some s → (hblock ≡ s.hblock) × (image ≡ s.packed)
-    → {h : ℕ} → h ≡ s.half → (h % 16 ≡ 0) × (hblock + hblock ≡ 64 + h) × (image ≡ 3 * h)
+    → {h : ℕ} → h ≡ s.half → ((h % 16 ≡ 0) × (hblock + hblock ≡ 64 + h)) × (image ≡ 3 * h)
 lengths hblock image set s known long e =
     let is_set : IsSet set s = known_set set s known in
-    (omega arith, omega arith, omega arith)
+    ((omega arith, omega arith), omega arith)
 
 -- the promise, from what is written with the set's own half and root
 pub owed : (hblock image image' : List ℕ) (set : ℕ) (s : Parameters) → set_of set ≡ Some s → (length hblock ≡ s.hblock) × (length image ≡ s.packed)

@@ -1,9 +1,10 @@
 // An H block to the packed image of its r, which the host hashes to a G block.
 #![tactic(auto)]
 
-ghost use Rattle.std.specs.Prelude.{◌≡◌, ◌+◌, ◌*◌, ◌%◌, length};
-ghost use Rattle.residue.specs.Field.{generator, powq};
+ghost use Rattle.std.specs.Prelude.{◌≡◌, ◌*◌, length};
 ghost use Rattle.packing.specs.Packing.{packed};
+ghost use Rattle.slots.specs.Engines.{root};
+ghost use Rattle.stages.specs.Fits.{HblockFits};
 ghost use Rattle.stages.specs.Sealing.{r_image};
 ghost use Rattle.calls_r_image.specs.RImage.{RImage};
 
@@ -12,8 +13,8 @@ use slots::Engine;
 
 // With buffers of the right lengths.
 fn r_image_in(engine: &Engine, hblock: &[u8], image: &mut [u8])
-    requires { (engine.now.half % 16 ≡ 0) × (length hblock.now + length hblock.now ≡ 64 + engine.now.half) × (length image.old ≡ 3 * engine.now.half) }
-    ensures { image.new ≡ packed (r_image engine.now.half (powq generator engine.now.step) hblock.now) }
+    requires { HblockFits engine.now hblock.now × (length image.old ≡ 3 * engine.now.half) }
+    ensures { image.new ≡ packed (r_image engine.now.half (root engine.now) hblock.now) }
 {
     let n = engine.half + engine.half;
     let mut room = rooms::numbers();

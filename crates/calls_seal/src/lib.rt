@@ -2,8 +2,8 @@
 #![tactic(auto)]
 
 ghost use Rattle.std.specs.Prelude.{[], ◌∷◌, ◌≡◌, ◌+◌, ◌*◌, ◌%◌, length};
-ghost use Rattle.residue.specs.Field.{generator, powq};
 ghost use Rattle.packing.specs.Packing.{groups};
+ghost use Rattle.slots.specs.Engines.{root};
 ghost use Rattle.answers.specs.Replies.{reply, leaves, Outcome};
 ghost use Rattle.answers.specs.Tests.{in_range};
 ghost use Rattle.stages.specs.Sealing.{key_bytes, ciphertext};
@@ -24,7 +24,7 @@ fn seal_in(
 ) -> Answer
     requires blocks { (length message.now % 4 ≡ 0) × (engine.now.half ≡ 4 * length message.now) × (length hblock.now ≡ 32 + length gblock.now) × (length gblock.now ≡ 2 * length message.now) }
     requires buffers { (length public.now ≡ 3 * engine.now.half) × (length cipher.old ≡ 3 * engine.now.half) × (length key.old ≡ 32) }
-    ensures { Outcome (in_range (groups public.now ∷ []) (reply 0 0)) result (λ R. (cipher.new ≡ leaves R (ciphertext engine.now.half (powq generator engine.now.step) public.now message.now hblock.now gblock.now) cipher.old) × (key.new ≡ leaves R (key_bytes hblock.now) key.old)) }
+    ensures { Outcome (in_range (groups public.now ∷ []) (reply 0 0)) result (λ R. (cipher.new ≡ leaves R (ciphertext engine.now.half (root engine.now) public.now message.now hblock.now gblock.now) cipher.old) × (key.new ≡ leaves R (key_bytes hblock.now) key.old)) }
 {
     let n = engine.half + engine.half;
     let mut first = rooms::numbers();

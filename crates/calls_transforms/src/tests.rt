@@ -2,6 +2,7 @@
 ghost use Rattle.calls_transforms.specs.Tests.{Tells};
 
 use answers::{Parameters, Refusal};
+use residue::scan::first_large;
 
 // The set's parameters where no refusal applies.
 pub(crate) fn test_list(set: usize, a: &[u16], room: usize) -> Result<Parameters, Refusal>
@@ -11,7 +12,7 @@ pub(crate) fn test_list(set: usize, a: &[u16], room: usize) -> Result<Parameters
     if !(a.len() == s.n && room == s.n) {
         return Err(Refusal::WrongLength);
     }
-    if let Some(at) = residue::scan::first_large(a) {
+    if let Some(at) = first_large(a) {
         return Err(Refusal::TooLarge(at));
     }
     Ok(s)

@@ -33,6 +33,7 @@ fn encode_bits(bits: &[u8], halves: &[u8], coefficients: &mut [u16])
     ensures { coefficients.new ≡ tab (length coefficients.old) (λ i. residue_of (encode_bit (get_or bits.now i 0) (get_or halves.now i 0) (get_or halves.now (length coefficients.old + i) 0))) }
 {
     let n = coefficients.len();
+    // Here and in `decode_bits` the other lists are read by the place: of what a `zip` of `iter_mut` writes, a proof knows no more than the length.
     for (i, coefficient) in coefficients.iter_mut().enumerate() {
         *coefficient = encode_bit(bits[i], halves[i], halves[n + i]).value;
     }

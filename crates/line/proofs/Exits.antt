@@ -26,8 +26,19 @@ use Rattle.lines.proofs.InputLaws.{line_residues}
 use Rattle.lines.proofs.OutputLaws.{answer_short}
 use Rattle.line.specs.Chosen.{Chosen}
 use Rattle.line.specs.Read.{Refused, Multiplied}
-use Rattle.line.proofs.ChosenLaws.{chosen_product, chosen_room, chosen_long, set_below}
+use Rattle.line.proofs.ChosenLaws.{chosen_small, chosen_product, chosen_room, chosen_long, set_below}
 use Rattle.line.proofs.Printed.{printed_long, printed_first, printed_unknown, printed_second, printed_third, printed_more, printed_product}
+
+-- what the tests so far have told, where the second line gave the polynomial a
+pub record Second (input : List ℕ) (set n : ℕ) (a : List ℕ) : Type 0 where
+  pub choice : Chosen input set n
+  pub read : polynomial_in a_name n (past lf input) ≡ Some a
+
+-- and where the third line gave b, with the bytes after it
+pub record Third (input : List ℕ) (set n : ℕ) (a b rest : List ℕ) : Type 0 where
+  pub one : Second input set n a
+  pub read : polynomial_in b_name n (past lf (past lf input)) ≡ Some b
+  pub rest_is : rest ≡ past lf (past lf (past lf input))
 
 -- the first places of a room, as many as a known set has numbers
 module _ (set : ℕ) {found : Option Parameters} {s : Parameters} (found_is : found ≡ set_of set) (known : found ≡ Some s) (room : List ℕ) (long : 1152 ≡ length room) where
@@ -74,61 +85,63 @@ module _ (input : List ℕ) {first : Option ℕ} (short : length input ≤ 32768
     pub unknown_set : found ≡ None → Refused input UnknownSet
     unknown_set e = record { said = printed_unknown input short set (sym first_is ∙ named) (sym found_is ∙ e); place = omega arith }
 
-    module _ {s : Parameters} (known : found ≡ Some s) where
-      chosen : Chosen input set s.n
-      chosen = record { parameters = s; short = short; first = sym first_is ∙ named; known = sym found_is ∙ known; size = refl }
+    pub chosen : {s : Parameters} → found ≡ Some s → Chosen input set s.n
+    chosen {s} known = record { parameters = s; short = short; first = sym first_is ∙ named; known = sym found_is ∙ known; size = refl }
 
-      module _ {second : List ℕ} (second_is : second ≡ past lf input) (room : List ℕ) (long : 1152 ≡ length room)
-          (a : List ℕ) {good : Bool} (read : Reads good a (polynomial_in a_name (length (take s.n room)) second)) where
-        pub bad_second : good ≡ false → Refused input (Malformed 2)
-        bad_second e = record {
-          said = printed_second chosen (rw (← second_is) (none_read a_name second (part set found_is known room long) a read e));
-          place = omega arith;
+module _ {input : List ℕ} {set n : ℕ} (choice : Chosen input set n) where
+  -- a room's first n places
+  front : (room : List ℕ) → 1152 ≡ length room → n ≡ length (take n room)
+  front room long = sym (length-take-le n room (omega (arith, chosen_small choice)))
+
+  module _ {line : List ℕ} (line_is : line ≡ past lf input) (room : List ℕ) (long : 1152 ≡ length room)
+      (a : List ℕ) {good : Bool} (read : Reads good a (polynomial_in a_name (length (take n room)) line)) where
+    pub bad_second : good ≡ false → Refused input (Malformed 2)
+    bad_second e = record { said = printed_second choice (rw (← line_is) (none_read a_name line (front room long) a read e)); place = omega arith }
+
+    pub second : good ≡ true → Second input set n a
+    second e = record { choice = choice; read = rw (← line_is) (some_read a_name line (front room long) a read e) }
+
+module _ {input : List ℕ} {set n : ℕ} {a : List ℕ} (one : Second input set n a) where
+  module _ {before line : List ℕ} (before_is : before ≡ past lf input) (line_is : line ≡ past lf before) (room : List ℕ) (long : 1152 ≡ length room)
+      (b : List ℕ) {good : Bool} (read : Reads good b (polynomial_in b_name (length (take n room)) line)) where
+    pub bad_third : good ≡ false → Refused input (Malformed 3)
+    bad_third e = record {
+      said = printed_third one.choice a one.read (rw (← before_is, ← line_is) (none_read b_name line (front one.choice room long) b read e));
+      place = omega arith;
+    }
+
+    pub third : good ≡ true → {rest : List ℕ} → rest ≡ past lf line → Third input set n a b rest
+    third e rest_is = record {
+      one = one;
+      read = rw (← before_is, ← line_is) (some_read b_name line (front one.choice room long) b read e);
+      rest_is = rw (← before_is, ← line_is) rest_is;
+    }
+
+module _ {input : List ℕ} {set n : ℕ} {a b rest : List ℕ} (both : Third input set n a b rest) where
+  pub more : length rest ≢ 0 → Refused input (Malformed 4)
+  more e = record {
+    said = printed_more both.one.choice a both.one.read b both.read (subst (λ l. length l ≢ 0) both.rest_is e);
+    place = omega arith;
+  }
+
+  module _ (ended : length rest ≡ 0) (list : List ℕ) (room_is : length list ≡ 1152) (r : Answer) (after : List ℕ) (call : Product set a b (take n list) r after) where
+    done : (number_of r ≡ 0) × (place_of r ≡ 0) × (after ≡ product_of set a b)
+    done =
+        chosen_product both.one.choice a b (line_residues a_name (past lf input) n a both.one.read)
+        (line_residues b_name (past lf (past lf input)) n b both.read) (take n list) r after (sym (front both.one.choice list (sym room_is))) call
+
+    -- the call refuses nothing
+    pub never : (refusal : Refusal) → r ≡ Err refusal → ⊥
+    never refusal e = omega (arith, numbered refusal, subst (λ x. number_of x ≡ 0) e done.0)
+
+    -- what it writes stands in front of the list, which is as long as the set says
+    pub multiplied : (behind : List ℕ) → Multiplied input (after ++ behind) set
+    multiplied behind =
+        let whole : take set (after ++ behind) ≡ after = take_at after behind set (chosen_long both.one.choice a b after done.2) in
+        let fits = chosen_room both.one.choice a b after done.2 in
+        record {
+          said = rw whole (printed_product both.one.choice a both.one.read b both.read (ap length (sym both.rest_is) ∙ ended)
+              ∙ ap (product_lines set) (sym done.2));
+          small = set_below both.one.choice;
+          fits = rw whole fits.1;
         }
-
-        module _ (is_good : good ≡ true) where
-          some_second : polynomial_in a_name s.n (past lf input) ≡ Some a
-          some_second = rw (← second_is) (some_read a_name second (part set found_is known room long) a read is_good)
-
-          module _ {third : List ℕ} (third_is : third ≡ past lf second) (room' : List ℕ) (long' : 1152 ≡ length room')
-              (b : List ℕ) {good' : Bool} (read' : Reads good' b (polynomial_in b_name (length (take s.n room')) third)) where
-            pub bad_third : good' ≡ false → Refused input (Malformed 3)
-            bad_third e = record {
-              said = printed_third chosen a some_second (rw (← second_is, ← third_is) (none_read b_name third (part set found_is known room' long') b read' e));
-              place = omega arith;
-            }
-
-            module _ (is_good' : good' ≡ true) {rest : List ℕ} (rest_is : rest ≡ past lf third) where
-              some_third : polynomial_in b_name s.n (past lf (past lf input)) ≡ Some b
-              some_third = rw (← second_is, ← third_is) (some_read b_name third (part set found_is known room' long') b read' is_good')
-
-              rest_of_input : rest ≡ past lf (past lf (past lf input))
-              rest_of_input = rw (← second_is, ← third_is) rest_is
-
-              pub more : length rest ≢ 0 → Refused input (Malformed 4)
-              more e = record {
-                said = printed_more chosen a some_second b some_third (subst (λ l. length l ≢ 0) rest_of_input e);
-                place = omega arith;
-              }
-
-              module _ (ended : length rest ≡ 0) (list : List ℕ) (room_is : length list ≡ 1152) (r : Answer) (after : List ℕ) (call : Product set a b (take s.n list) r after) where
-                done : (number_of r ≡ 0) × (place_of r ≡ 0) × (after ≡ product_of set a b)
-                done =
-                    chosen_product chosen a b (line_residues a_name (past lf input) s.n a some_second)
-                    (line_residues b_name (past lf (past lf input)) s.n b some_third) (take s.n list) r after (sym (part set found_is known list (sym room_is))) call
-
-                -- the call refuses nothing
-                pub never : (refusal : Refusal) → r ≡ Err refusal → ⊥
-                never refusal e = omega (arith, numbered refusal, subst (λ x. number_of x ≡ 0) e done.0)
-
-                -- what it writes stands in front of the list, which is as long as the set says
-                pub multiplied : (behind : List ℕ) → Multiplied input (after ++ behind) set
-                multiplied behind =
-                    let whole : take set (after ++ behind) ≡ after = take_at after behind set (chosen_long chosen a b after done.2) in
-                    let fits = chosen_room chosen a b after done.2 in
-                    record {
-                      said = rw whole (printed_product chosen a some_second b some_third (ap length (sym rest_of_input) ∙ ended)
-                          ∙ ap (product_lines set) (sym done.2));
-                      small = set_below chosen;
-                      fits = rw whole fits.1;
-                    }

@@ -50,7 +50,7 @@ pub fn line(input: &[u8], output: &mut [u8; OUTPUT_ROOM]) -> usize
 {
     let mut list = rooms::numbers();
     match product_in(input, &mut list) {
-        Ok(set) => put_lines(Ok(()), set, &list[..set], output),
+        Ok(set) => put_lines(set, &list[..set], output),
         Err(refusal) => put_answer(Err(refusal), output),
     }
 }

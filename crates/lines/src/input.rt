@@ -17,7 +17,7 @@ pub fn set_in(s: &[u8]) -> Option<usize>
     text::number(body(b"set=", s)?)
 }
 
-// The list holds the polynomial where there is one.
+// The list holds the polynomial where there is one. A bool stands beside it, since `Reads`, of which the promises speak, is said of a bool.
 pub fn polynomial_in(name: &[u8], s: &[u8], list: &mut [u16]) -> bool
     ensures { Reads result list.new (polynomial_in name.now (length list.old) s.now) }
 {

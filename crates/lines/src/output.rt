@@ -38,12 +38,12 @@ fn lines_of_answer(answer: Answer, page: &mut Page)
 }
 
 // The lines of an answer of 0, and of the set and the product after it.
-fn lines_of_product(answer: Answer, set: usize, list: &[u16], page: &mut Page)
-    requires answer_value { (number_of answer ≡ 0) × (place_of answer ≡ 0) × (set < 100000) × (length list.now ≤ 100000) }
-    requires list_in_bounds { Room page.old (product_lines set list.now) }
+fn lines_of_product(set: usize, list: &[u16], page: &mut Page)
+    requires few_digits { (set < 100000) × (length list.now ≤ 100000) }
+    requires room { Room page.old (product_lines set list.now) }
     ensures { Prints page.old (product_lines set list.now) page.new }
 {
-    lines_of_answer(answer, page);
+    lines_of_answer(Ok(()), page);
     number_line(b"set=", set, page);
     product_line(list, page);
 }
@@ -59,12 +59,12 @@ pub fn put_answer(answer: Answer, out: &mut [u8]) -> usize
 }
 
 // The four lines after an answer of 0.
-pub fn put_lines(answer: Answer, set: usize, list: &[u16], out: &mut [u8]) -> usize
-    requires answer_value { (number_of answer ≡ 0) × (place_of answer ≡ 0) × (set < 100000) × (length list.now ≤ 100000) }
-    requires list_in_bounds { length (product_lines set list.now) ≤ length out.old }
+pub fn put_lines(set: usize, list: &[u16], out: &mut [u8]) -> usize
+    requires few_digits { (set < 100000) × (length list.now ≤ 100000) }
+    requires room { length (product_lines set list.now) ≤ length out.old }
     ensures { Writes out.old 0 (product_lines set list.now) out.new result }
 {
     let mut page = Page { out, at: 0 };
-    lines_of_product(answer, set, list, &mut page);
+    lines_of_product(set, list, &mut page);
     page.at
 }

@@ -1,11 +1,11 @@
 -- A buffer of which a part was lent and came back filled: what its front then holds, and that two parts one after the other make the whole.
--- Assumes nothing.
-use mathlib.Core.Path.{◌≡◌, sym, ap, ◌∙◌}
+-- And a list that a loop reads part by part. Assumes nothing.
+use mathlib.Core.Path.{◌≡◌, refl, sym, ap, ◌∙◌}
 use mathlib.Core.List.{List, ◌++◌, append_assoc, append-nil}
-use Prim.Native.Nat.{ℕ, ◌-◌, ◌≤◌}
+use Prim.Native.Nat.{ℕ, ◌+◌, ◌-◌, ◌≤◌, ◌<◌}
 use native.Mathlib.Omega.{arith}
-use lib.ListN.{length, take, drop, length-append}
-use lib.Seq.{length-take-le, take_at, drop_at, drop-length}
+use lib.ListN.{length, get_or, take, drop, length-append, get_or-append}
+use lib.Seq.{get_or-drop, length-take-le, take_at, drop_at, drop-length, drop-drop}
 use borrow.Rule.Slice.PartMut.{put_mid, Post-is}
 
 module _ {A : Type 0} where
@@ -20,3 +20,16 @@ module _ {A : Type 0} where
   both_parts h d p q lp =
       let rest : length (p ++ drop h d) - h ≡ length (drop h d) = omega (arith, length-append p (drop h d)) in
       rw (rest, take_at p (drop h d) h lp, drop_at p (drop h d) h lp, drop-length (drop h d)) (ap (λ l. p ++ l) (append-nil q))
+
+-- ---- the part that a loop reads next, at place n of a list
+
+-- it holds what the list holds there
+pub part_at : (n : ℕ) (l part rest : List ℕ) → drop n l ≡ part ++ rest → (i j : ℕ) → i < length part → n + i ≡ j
+    → get_or part i 0 ≡ get_or l j 0
+part_at n l part rest e i j h s =
+    sym (get_or-append part rest 0 i h) ∙ ap (λ xs. get_or xs i 0) (sym e) ∙ get_or-drop n l i 0 ∙ ap (λ k. get_or l k 0) s
+
+-- and after it comes the rest
+pub part_rest : (n : ℕ) (l part rest : List ℕ) → drop n l ≡ part ++ rest → (m : ℕ) → n + length part ≡ m → drop m l ≡ rest
+part_rest n l part rest e m h =
+    sym (drop-drop (length part) n l ∙ ap (λ i. drop i l) h) ∙ ap (drop (length part)) e ∙ drop_at part rest (length part) refl

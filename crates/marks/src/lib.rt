@@ -1,4 +1,5 @@
 // Marks: a byte for each coefficient of a small polynomial, 0, 1, or 2 for -1.
+// A byte and not an enum: C lends and takes marks as bytes, and they take part in sums.
 #![tactic(auto)]
 
 ghost use Rattle.std.specs.Prelude.{◌≡◌, map, ◌<◌, length, position};
@@ -38,6 +39,7 @@ pub fn mark(list: &[u16], marks: &mut [u8])
     requires { Residues (length marks.old) list.now }
     ensures { marks.new ≡ map (λ a. mark_of (centred_by_three a)) list.now }
 {
+    // Here and in `unmark` the other list is read by the place: of what a `zip` of `iter_mut` writes, a proof knows no more than the length.
     for (i, mark) in marks.iter_mut().enumerate() {
         let coefficient = Residue { value: list[i] };
         *mark = mark_of(coefficient.centred_by_three());

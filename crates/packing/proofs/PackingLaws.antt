@@ -4,8 +4,8 @@ use mathlib.Core.Path.{◌≡◌, refl, sym, ap, ap₂, ◌∙◌}
 use mathlib.Core.List.{List, [], ◌∷◌, ◌++◌, flatten}
 use Prim.Native.Nat.{ℕ, ◌+◌, ◌*◌, ◌/◌, ◌<◌}
 use native.Mathlib.Omega.{arith}
-use lib.ListN.{length, get_or, drop, length-append, get_or-append}
-use lib.Seq.{get_or-append-add, get_or-drop, drop_at, drop-drop}
+use lib.ListN.{length, get_or, length-append, get_or-append}
+use lib.Seq.{get_or-append-add}
 use Rattle.lists.specs.Tab.{tab}
 use Rattle.lists.specs.Below.{Below}
 use Rattle.residue.specs.Large.{first_large}
@@ -68,19 +68,6 @@ groups_append k xs ys e =
     second : (i : ℕ) → i < length ys / 3 → three (xs ++ ys) (length xs / 3 + i) ≡ three ys i
     second i h =
         same (ap (λ j. get_or (xs ++ ys) j 0) (omega arith) ∙ past i 0 ∙ ap (λ j. get_or ys j 0) (omega arith)) (past i 1) (past i 2)
-
--- ---- the part that a loop reads next, at place n of a list
-
--- it holds what the list holds there
-pub part_at : (n : ℕ) (l part rest : List ℕ) → drop n l ≡ part ++ rest → (i j : ℕ) → i < length part → n + i ≡ j
-    → get_or part i 0 ≡ get_or l j 0
-part_at n l part rest e i j h s =
-    sym (get_or-append part rest 0 i h) ∙ ap (λ xs. get_or xs i 0) (sym e) ∙ get_or-drop n l i 0 ∙ ap (λ k. get_or l k 0) s
-
--- and after it comes the rest
-pub part_rest : (n : ℕ) (l part rest : List ℕ) → drop n l ≡ part ++ rest → (m : ℕ) → n + length part ≡ m → drop m l ≡ rest
-part_rest n l part rest e m h =
-    sym (drop-drop (length part) n l ∙ ap (λ i. drop i l) h) ∙ ap (drop (length part)) e ∙ drop_at part rest (length part) refl
 
 -- ---- one pair
 

@@ -1,11 +1,13 @@
 // Packing of residues into bytes, and back: loops over the pairs, each number and each byte read once.
-// What is written goes by its place: of what `chunks_exact_mut` lends, a proof would know no more than the length.
+// What is written goes by places and not by `chunks_exact_mut`: of what is written through that, a proof knows no more than the length.
 #![tactic(auto)]
 
 ghost use Rattle.std.specs.Prelude.{◌≡◌, ◌*◌, ◌/◌, ◌%◌, length, position};
 ghost use Rattle.residue.specs.Large.{too_large};
 ghost use Rattle.residue.specs.Residues.{Residues};
 ghost use Rattle.packing.specs.Packing.{packed, groups};
+
+use residue::scan::first_large;
 
 pub fn pack(list: &[u16], bytes: &mut [u8])
     requires list_len { length list.now % 2 ≡ 0 }
@@ -45,5 +47,5 @@ pub fn unpack(bytes: &[u8], list: &mut [u16]) -> Option<usize>
     ensures value { result ≡ position too_large (groups bytes.now) }
 {
     unpack_pairs(bytes, list);
-    residue::scan::first_large(list)
+    first_large(list)
 }

@@ -7,7 +7,7 @@ ghost use Rattle.powers.specs.Powers.{Powers};
 
 use residue::{GENERATOR, ONE, Residue};
 
-// The whole table. A caller makes it once and lends it: a constant is built anew wherever it is named.
+// The whole table. An engine is made with it once: a constant is built anew wherever it is named.
 pub fn powers() -> [u16; 3456]
     ensures { Powers GENERATOR ONE result }
 {

@@ -96,9 +96,6 @@ pub decimal_more : (v : ℕ) → 10 ≤ v → v < 100000 → decimal v ≡ decim
 unfolding decimal digits
 decimal_more v h k = ap (λ w. digits w v) (width_more v h k)
 
-pub decimal_longer : (v : ℕ) → 10 ≤ v → v < 100000 → length (decimal v) ≡ length (decimal (v / 10)) + 1
-decimal_longer v h k = ap length (decimal_more v h k) ∙ length-append (decimal (v / 10)) ((48 + v % 10) ∷ [])
-
 -- it has one to five digits
 pub decimal_length : (v : ℕ) → v < 100000 → (1 ≤ length (decimal v)) × (length (decimal v) ≤ 5)
 decimal_length v h = omega (arith, wide v h, length_decimal v)

@@ -1,4 +1,4 @@
--- The laws of a text written into a buffer: the one by which printing functions compose, and the stores of the two loops that print.
+-- The laws of a text written into a buffer: the one by which printing functions compose, and what is stored.
 -- Assumes nothing.
 use mathlib.Core.Path.{◌≡◌, refl, sym, ap, ap₂, ◌∙◌}
 use mathlib.Core.List.{List, [], ◌∷◌, ◌++◌, append_assoc}

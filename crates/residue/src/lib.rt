@@ -7,13 +7,14 @@ ghost use Rattle.residue.specs.Signed.{centred, by_three, centred_by_three};
 
 pub mod scan;
 
-// The numbers that stand for one and for the generator: a clause can name them, and no constant whose type has an invariant.
+// The numbers that stand for one and for the generator. A clause can name these numbers; it can't name a constant whose type has an invariant.
 pub const ONE: u16 = 1;
 
 pub const GENERATOR: u16 = 7;
 
 // A residue modulo 3457, by the number below 3457 that stands for it. A list of residues stays a list of numbers, with `Residues` in
-// contracts: C lends such lists, and they are tested where they lie.
+// contracts. C lends such lists, and they are tested where they lie; each step writes into a lent list too, so a type for checked
+// lists would be wrapped anew at each step.
 #[derive(Clone, Copy, PartialEq, Eq)]
 pub struct Residue {
     pub value: u16,
@@ -105,11 +106,9 @@ pub fn by_three(value: i32) -> i32
     ensures { result ≡ by_three value }
 {
     let m = value % 3;
-    if m == 2 {
-        -1
-    } else if m == -2 {
-        1
-    } else {
-        m
+    match m {
+        2 => -1,
+        -2 => 1,
+        _ => m,
     }
 }

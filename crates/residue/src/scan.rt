@@ -2,8 +2,6 @@
 ghost use Rattle.std.specs.Prelude.{◌≡◌, ℕ, ◌<◌, ◌≤◌, length, get_or, position};
 ghost use Rattle.residue.specs.Large.{too_large};
 
-use std::cmp::max;
-
 fn too_large(x: u16) -> bool
     ensures { result ≡ too_large x }
 {
@@ -14,11 +12,7 @@ fn too_large(x: u16) -> bool
 fn largest(list: &[u16]) -> u16
     ensures { (i : ℕ) → i < length list.now → get_or list.now i 0 ≤ result }
 {
-    let mut most = 0;
-    for x in list {
-        most = max(most, *x);
-    }
-    most
+    list.iter().copied().max().unwrap_or(0)
 }
 
 // The largest number tells faster than a search that there is none, so the place is looked for only where there is one.

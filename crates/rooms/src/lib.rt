@@ -1,4 +1,4 @@
-// Working room for a call, long enough for the larger set. It holds zeros at first.
+// Working room for a call, long enough for the larger set. It holds zeros at first. It is an array, since there is no heap: memory is fixed.
 // Two functions and no generic one, with which each of the callers would name a type and a size beside the name of its room.
 #![tactic(auto)]
 

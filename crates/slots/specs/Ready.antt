@@ -1,4 +1,4 @@
--- What the engine asks of a set, and of the table of powers that it is lent.
+-- What an engine's half, step and table of powers have to fit: its invariant.
 -- Assumes nothing: this is a definition.
 use Rattle.std.specs.Prelude.{◌≡◌, List, ℕ, ◌*◌}
 use Rattle.residue.specs.Field.{one, generator}

@@ -3,6 +3,7 @@ ghost use Rattle.std.specs.Prelude.{◌≡◌, ◌+◌, ◌*◌, ◌-◌, ◌%�
 ghost use Rattle.residue.specs.Field.{generator, addq, subq, mulq, powq};
 ghost use Rattle.residue.specs.Residues.{Residues};
 ghost use Rattle.algebra.specs.Transform.{slot_sum, reverse};
+ghost use Rattle.slots.specs.Engines.{size, root};
 
 use crate::engine::Engine;
 use crate::transform::advance;
@@ -24,23 +25,25 @@ fn settle(scale: Residue, sum: Residue, partner: Residue) -> Residue
 }
 
 impl Engine {
-    // Slots 2t and 2t + 1 more in a sum, at the powers `even` and `odd` of GENERATOR.
-    fn plus_pair(&self, sum: Residue, a: &[u16], t: usize, even: usize, odd: usize) -> Residue
-        requires a_residues { Residues (length a.now) a.now × (t + t + 1 < length a.now) }
-        requires even_bound { (even < 3456) × (odd < 3456) }
-        ensures { result.value ≡ addq (addq sum.value (mulq (get_or a.now (t + t) 0) (powq generator even))) (mulq (get_or a.now (t + t + 1) 0) (powq generator odd)) }
+    // Two slots more in a sum, at the powers `even` and `odd` of GENERATOR.
+    fn plus_pair(
+        &self,
+        sum: Residue,
+        first: Residue,
+        second: Residue,
+        even: usize,
+        odd: usize,
+    ) -> Residue
+        requires { (even < 3456) × (odd < 3456) }
+        ensures { result.value ≡ addq (addq sum.value (mulq first.value (powq generator even))) (mulq second.value (powq generator odd)) }
     {
-        let first = Residue { value: a[t + t] };
-        let second = Residue {
-            value: a[t + t + 1],
-        };
         self.plus_term(self.plus_term(sum, first, even), second, odd)
     }
 
     // S_j: the sum over the slots of a_k y^e, where y is w^-j. The exponents e are 1 and 5, 7 and 11, and so on by six.
     fn slot_sum(&self, a: &[u16], j: usize) -> Residue
-        requires { Residues (self.now.half + self.now.half) a.now × (j < self.now.half + self.now.half) }
-        ensures { result.value ≡ slot_sum self.now.half (powq generator self.now.step) a.now j }
+        requires { Residues (size self.now) a.now × (j < size self.now) }
+        ensures { result.value ≡ slot_sum self.now.half (root self.now) a.now j }
     {
         let log = opposite(self.step * j);
         let two = advance(log, log);
@@ -49,9 +52,10 @@ impl Engine {
         let mut sum = Residue::ZERO;
         let mut even = log;
         let mut odd = advance(four, log);
-        // By the number t, of which the exponents are said.
-        for t in 0..self.half {
-            sum = self.plus_pair(sum, a, t, even, odd);
+        for pair in a.chunks_exact(2) {
+            let first = Residue { value: pair[0] };
+            let second = Residue { value: pair[1] };
+            sum = self.plus_pair(sum, first, second, even, odd);
             even = advance(even, six);
             odd = advance(odd, six);
         }
@@ -60,8 +64,8 @@ impl Engine {
 
     // The element whose image is a. Places j and h + j are each other's partners, so one turn makes both, by their index.
     pub fn reverse(&self, a: &[u16], out: &mut [u16])
-        requires { Residues (self.now.half + self.now.half) a.now × (length out.old ≡ self.now.half + self.now.half) }
-        ensures { out.new ≡ reverse self.now.half (powq generator self.now.step) a.now }
+        requires { Residues (size self.now) a.now × (length out.old ≡ size self.now) }
+        ensures { out.new ≡ reverse self.now.half (root self.now) a.now }
     {
         let half = self.half;
         let scale = Residue {

@@ -3,6 +3,7 @@ ghost use Rattle.std.specs.Prelude.{◌≡◌, ◌+◌, ◌*◌, ◌%◌, ◌<�
 ghost use Rattle.residue.specs.Field.{generator, addq, mulq, powq};
 ghost use Rattle.residue.specs.Residues.{Residues};
 ghost use Rattle.algebra.specs.Transform.{exponent, value, image};
+ghost use Rattle.slots.specs.Engines.{size, root};
 
 use crate::engine::Engine;
 use residue::Residue;
@@ -58,8 +59,8 @@ impl Engine {
 
     // Slot k is the value of a at its point.
     pub fn transform(&self, a: &[u16], out: &mut [u16])
-        requires { Residues (self.now.half + self.now.half) a.now × (length out.old ≡ self.now.half + self.now.half) }
-        ensures { out.new ≡ image self.now.half (powq generator self.now.step) a.now }
+        requires { Residues (size self.now) a.now × (length out.old ≡ size self.now) }
+        ensures { out.new ≡ image self.now.half (root self.now) a.now }
     {
         for (k, slot) in out.iter_mut().enumerate() {
             *slot = self.value(a, slot_log(self.step, k)).value;

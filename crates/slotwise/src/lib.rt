@@ -17,6 +17,7 @@ fn slot_by_slot<F: Fn(Residue, Residue) -> Residue>(a: &[u16], b: &[u16], out: &
     requires computes { (x y r : Residue) → F.post step x y r → r.value ≡ f x.value y.value }
     ensures { out.new ≡ tab (length out.old) (λ k. f (get_or a.now k 0) (get_or b.now k 0)) }
 {
+    // The other lists are read by the place: of what a `zip` of `iter_mut` writes, a proof knows no more than the length.
     for (i, slot) in out.iter_mut().enumerate() {
         let x = Residue { value: a[i] };
         let y = Residue { value: b[i] };

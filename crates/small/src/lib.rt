@@ -1,4 +1,5 @@
 // Small polynomials sampled from bytes, and the bits of a block's halves. Coefficients are written as residues, -1 as 3456.
+// The room for bits, `halves`, is lent, as `bench_steps` has it from C.
 #![tactic(auto)]
 
 ghost use Rattle.std.specs.Prelude.{◌++◌, map, ◌≡◌, ◌+◌, ◌*◌, ◌%◌, ◌<◌, pos, ◌-ℤ◌, length, get_or};
@@ -41,6 +42,7 @@ fn sample_bits(halves: &[u8], coefficients: &mut [u16])
     ensures { coefficients.new ≡ tab (length coefficients.old) (λ i. residue_of (pos (get_or halves.now i 0) -ℤ pos (get_or halves.now (length coefficients.old + i) 0))) }
 {
     let n = coefficients.len();
+    // The halves are read by the place: of what a `zip` of `iter_mut` writes, a proof knows no more than the length.
     for (i, coefficient) in coefficients.iter_mut().enumerate() {
         *coefficient = difference(halves[i], halves[n + i]).value;
     }

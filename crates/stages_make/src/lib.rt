@@ -2,12 +2,14 @@
 #![tactic(auto)]
 
 ghost use Rattle.std.specs.Prelude.{◌≡◌, ◌++◌, map, ◌+◌, ◌*◌, ◌/◌, ◌%◌, ◌≤◌, length};
-ghost use Rattle.residue.specs.Field.{generator, mulq, powq};
+ghost use Rattle.residue.specs.Field.{mulq};
 ghost use Rattle.residue.specs.Residues.{Residues};
 ghost use Rattle.residue.specs.Signed.{residue_of};
 ghost use Rattle.algebra.specs.SlotBySlot.{times, inverses};
 ghost use Rattle.small.specs.Sampling.{sampled};
 ghost use Rattle.packing.specs.Packing.{packed};
+ghost use Rattle.slots.specs.Engines.{size, root};
+ghost use Rattle.stages.specs.Fits.{SampleFits};
 ghost use Rattle.stages.specs.Making.{small_f, small_g, f_image, g_image};
 
 use residue::Residue;
@@ -36,8 +38,8 @@ fn sample_tripled(block: &[u8], p: &mut [u16])
 
 // The image of f = 3f' + 1.
 fn f_image(engine: &Engine, block: &[u8], out: &mut [u16])
-    requires { (length block.now % 8 ≡ 0) × (engine.now.half + engine.now.half ≡ 4 * length block.now) × (length out.old ≡ engine.now.half + engine.now.half) }
-    ensures { out.new ≡ f_image engine.now.half (powq generator engine.now.step) (sampled block.now) }
+    requires { SampleFits engine.now block.now out.old }
+    ensures { out.new ≡ f_image engine.now.half (root engine.now) (sampled block.now) }
 {
     let mut numbers = rooms::numbers();
     let p = &mut numbers[..out.len()];
@@ -46,10 +48,10 @@ fn f_image(engine: &Engine, block: &[u8], out: &mut [u16])
     engine.transform(p, out);
 }
 
-// The image of g = 3g'.
+// The image of g = 3g'. A function beside that of f, since g has no constant: to add 0 would be no plainer.
 fn g_image(engine: &Engine, block: &[u8], out: &mut [u16])
-    requires { (length block.now % 8 ≡ 0) × (engine.now.half + engine.now.half ≡ 4 * length block.now) × (length out.old ≡ engine.now.half + engine.now.half) }
-    ensures { out.new ≡ g_image engine.now.half (powq generator engine.now.step) (sampled block.now) }
+    requires { SampleFits engine.now block.now out.old }
+    ensures { out.new ≡ g_image engine.now.half (root engine.now) (sampled block.now) }
 {
     let mut numbers = rooms::numbers();
     let p = &mut numbers[..out.len()];
@@ -59,9 +61,9 @@ fn g_image(engine: &Engine, block: &[u8], out: &mut [u16])
 
 // The images of f and g: f from the first half of the seed block and g from the second.
 pub fn pair_images(engine: &Engine, seed: &[u8], f: &mut [u16], g: &mut [u16])
-    requires { (length seed.now % 16 ≡ 0) × (engine.now.half ≡ length seed.now) × (length f.old ≡ engine.now.half + engine.now.half) × (length g.old ≡ engine.now.half + engine.now.half) }
-    ensures f_after { f.new ≡ f_image engine.now.half (powq generator engine.now.step) (small_f seed.now) }
-    ensures g_after { g.new ≡ g_image engine.now.half (powq generator engine.now.step) (small_g seed.now) }
+    requires { (length seed.now % 16 ≡ 0) × (engine.now.half ≡ length seed.now) × (length f.old ≡ size engine.now) × (length g.old ≡ size engine.now) }
+    ensures f_after { f.new ≡ f_image engine.now.half (root engine.now) (small_f seed.now) }
+    ensures g_after { g.new ≡ g_image engine.now.half (root engine.now) (small_g seed.now) }
 {
     let middle = seed.len() / 2;
     f_image(engine, &seed[..middle], f);

@@ -2,9 +2,10 @@
 #![tactic(auto)]
 
 ghost use Rattle.std.specs.Prelude.{◌≡◌, ◌+◌, ◌*◌, ◌%◌, ◌≤◌, length};
-ghost use Rattle.residue.specs.Field.{generator, powq};
 ghost use Rattle.residue.specs.Residues.{Residues};
 ghost use Rattle.encoding.specs.Encoding.{encoded};
+ghost use Rattle.slots.specs.Engines.{size, root};
+ghost use Rattle.stages.specs.Fits.{HblockFits};
 ghost use Rattle.stages.specs.Sealing.{key_bytes, small_r, r_image, sealed_image};
 
 use slots::Engine;
@@ -12,8 +13,8 @@ use stages::images::{encoded_image, sampled_image};
 
 // The image of the r that an H block brings after its 32 key bytes.
 pub fn r_image(engine: &Engine, hblock: &[u8], out: &mut [u16])
-    requires { (engine.now.half % 16 ≡ 0) × (length hblock.now + length hblock.now ≡ 64 + engine.now.half) × (length out.old ≡ engine.now.half + engine.now.half) }
-    ensures { out.new ≡ r_image engine.now.half (powq generator engine.now.step) hblock.now }
+    requires { HblockFits engine.now hblock.now × (length out.old ≡ size engine.now) }
+    ensures { out.new ≡ r_image engine.now.half (root engine.now) hblock.now }
 {
     sampled_image(engine, &hblock[32..], out);
 }
@@ -27,9 +28,9 @@ pub fn sealed_image(
     gblock: &[u8],
     out: &mut [u16],
 )
-    requires h_residues { Residues (engine.now.half + engine.now.half) h.now × (length out.old ≡ engine.now.half + engine.now.half) }
+    requires h_residues { Residues (size engine.now) h.now × (length out.old ≡ size engine.now) }
     requires message_len { (length message.now % 4 ≡ 0) × (engine.now.half ≡ 4 * length message.now) × (length hblock.now ≡ 32 + length gblock.now) × (length gblock.now ≡ 2 * length message.now) }
-    ensures { out.new ≡ sealed_image engine.now.half (powq generator engine.now.step) h.now (small_r hblock.now) (encoded message.now gblock.now) }
+    ensures { out.new ≡ sealed_image engine.now.half (root engine.now) h.now (small_r hblock.now) (encoded message.now gblock.now) }
 {
     let n = h.len();
     let mut first = rooms::numbers();

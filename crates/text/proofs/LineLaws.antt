@@ -1,4 +1,4 @@
--- The laws of the pieces of a text: the turns of the loop that compares a name, and how a text splits at its first c.
+-- The laws of the pieces of a text: what stands after a name, and how a text splits at its first c.
 -- Assumes nothing.
 use mathlib.Core.Path.{◌≡◌, refl, sym, ap, ◌∙◌}
 use mathlib.Core.Bool.{Bool, true, false, ◌&&◌, cond, false≢true}

@@ -1,14 +1,14 @@
--- The laws of numbers in text: the turns of the loops over their digits, what the tests say, and that a number is below 100000.
+-- The laws of numbers in text: the sum of their digits, what the tests say, and that a number is below 100000.
 -- Assumes nothing.
 use mathlib.Core.Path.{◌≡◌, refl, ap, subst}
 use mathlib.Core.Bool.{Bool, true, false, not, cond}
-use mathlib.Core.List.{List, [], ◌∷◌}
+use mathlib.Core.List.{List, [], ◌∷◌, ◌++◌}
 use Prim.Native.Nat.{ℕ, zero, suc, ◌+◌, ◌-◌, ◌*◌, ◌^◌, ◌≤◌, ◌<◌}
 use native.Mathlib.Nat.{pow-succ', pow-le-pow_right, lt_of_lt_of_le}
 use native.Mathlib.Numerals.{add-one}
 use native.Mathlib.Omega.{arith}
 use lib.Dec.{leb, eqb}
-use lib.ListN.{length, get_or, drop, drop_of_length-le}
+use lib.ListN.{length, get_or, drop, drop_of_length-le, length-append}
 use lib.Seq.{drop-cons}
 use borrow.Author.Tests.{leb-true, ne_eqb}
 use Rattle.std.proofs.Common.{Some, None}
@@ -20,10 +20,10 @@ pub digit_is : (c : ℕ) → is_digit c ≡ true → (48 ≤ c) × (c ≤ 57)
 unfolding is_digit
 digit_is c e = let b = both_true (leb 48 c) (leb c 57) e in (leb-true 48 c b.0, leb-true c 57 b.1)
 
--- ---- the turns of the loop at the place i, and its end
+-- ---- the sum of the digits
 
 module _ (s : List ℕ) (i : ℕ) where
-  -- the digit at i comes after those of the sum
+  -- at the place i, the digit there comes after those of the sum
   pub spelled_more : (sum : ℕ) → i < length s → spelled sum (drop i s) ≡ spelled (10 * sum + (get_or s i 0 - 48)) (drop (i + 1) s)
   unfolding spelled
   spelled_more sum h = rw (add-one, drop-cons s i 0) refl
@@ -32,6 +32,12 @@ module _ (s : List ℕ) (i : ℕ) where
   pub spelled_none : (sum : ℕ) → length s ≤ i → spelled sum (drop i s) ≡ sum
   unfolding spelled
   spelled_none sum h = ap (spelled sum) (drop_of_length-le s h)
+
+-- a digit more at the end
+pub spelled_push : (s : List ℕ) (sum c : ℕ) → spelled sum (s ++ (c ∷ [])) ≡ 10 * spelled sum s + (c - 48)
+unfolding spelled
+spelled_push [] sum c = refl
+spelled_push (d ∷ s) sum c = spelled_push s (10 * sum + (d - 48)) c
 
 -- each byte of a run of digits is one
 pub digit_at : (s : List ℕ) → all_digits s ≡ true → (i : ℕ) → i < length s → is_digit (get_or s i 0) ≡ true
@@ -91,6 +97,20 @@ spelled_below (c ∷ s) sum k e h =
     let b = both_true (is_digit c) (all_digits s) e in
     let z : k + suc (length s) ≡ k + 1 + length s = omega arith in
     rw z (spelled_below s (10 * sum + (c - 48)) (k + 1) b.1 (power_more sum (c - 48) k h (omega (arith, digit_is c b.0))))
+
+-- what stands before a digit of a number, and the digit
+pub before_digit : {s : List ℕ} (front : List ℕ) (c : ℕ) (rest : List ℕ) → s ≡ front ++ (c ∷ rest) → is_number s ≡ true → (is_digit c ≡ true) × (spelled 0 front < 100000)
+before_digit front c rest e h =
+    let n = is_number_lem _ h in
+    let d = by front (subst (λ l. all_digits l ≡ true) e n.digits) in
+    (d.1, power_few _ (0 + length front) (omega (arith, n.few, ap length e, length-append front (c ∷ rest))) (spelled_below front 0 0 d.0 (omega arith)))
+  where
+    by : (front : List ℕ) → all_digits (front ++ (c ∷ rest)) ≡ true → (all_digits front ≡ true) × (is_digit c ≡ true)
+    by [] e = (refl, (both_true (is_digit c) (all_digits rest) e).0)
+    by (x ∷ front) e =
+        let b = both_true (is_digit x) (all_digits (front ++ (c ∷ rest))) e in
+        let more = by front b.1 in
+        (simp (b.0, more.0), more.1)
 
 -- a number is below 100000
 pub number_bound : (s : List ℕ) (v : ℕ) → number s ≡ Some v → v < 100000

@@ -2,7 +2,7 @@
 // nothing of them.
 #![tactic(auto)]
 
-ghost use Rattle.std.specs.Prelude.{◌≡◌, true, false, ◌-◌, ◌≤◌, eqb, length, drop, position, MatchOption};
+ghost use Rattle.std.specs.Prelude.{◌≡◌, true, false, ◌-◌, ◌<◌, ◌≤◌, eqb, length, drop, position, MatchOption};
 ghost use Rattle.text.specs.Numerals.{is_digit, all_digits, spelled, unpadded, is_number, number};
 ghost use Rattle.text.specs.Lines.{comma, up_to, past, begins, split};
 ghost use Rattle.text.specs.Terms.{term, allowed, terms};
@@ -42,16 +42,11 @@ pub fn after<'a>(name: &[u8], s: &'a [u8]) -> Option<&'a [u8]>
     s.strip_prefix(name)
 }
 
-fn is_digit(byte: u8) -> bool
-    ensures { result ≡ is_digit byte }
-{
-    byte.is_ascii_digit()
-}
-
+#[tactic(auto, unfolding(crate::specs::Numerals::is_digit))]
 fn all_digits(s: &[u8]) -> bool
     ensures { result ≡ all_digits s.now }
 {
-    s.iter().all(|byte| is_digit(*byte))
+    s.iter().all(|byte| byte.is_ascii_digit())
 }
 
 // What one digit stands for.
@@ -66,11 +61,7 @@ fn value(s: &[u8]) -> usize
     requires { is_number s.now ≡ true }
     ensures { result ≡ spelled 0 s.now }
 {
-    let mut sum = 0;
-    for byte in s {
-        sum = 10 * sum + digit(*byte);
-    }
-    sum
+    s.iter().fold(0, |sum, byte| 10 * sum + digit(*byte))
 }
 
 fn unpadded(s: &[u8]) -> bool
@@ -85,7 +76,7 @@ fn is_number(s: &[u8]) -> bool
     (1..=5).contains(&s.len()) && all_digits(s) && unpadded(s)
 }
 
-// By hand and not by `parse`, which takes a sign and leading zeros. The digits are summed up only where there are few enough of them.
+// By hand and not by `parse`, which takes a `&str`: UTF-8 and a second way to fail would come in. The digits are summed up only where there are few enough of them.
 pub fn number(s: &[u8]) -> Option<usize>
     ensures { result ≡ number s.now }
 {
@@ -99,18 +90,13 @@ fn term(s: &[u8]) -> Option<(usize, usize)>
 }
 
 fn in_range(n: usize, low: usize, index: usize, value: usize) -> bool
-    ensures { result ≡ allowed n low index value }
+    ensures test { result ≡ allowed n low index value }
+    ensures stored { result ≡ true → (index < n) × (value ≤ 3456) }
 {
     (low..n).contains(&index) && (1..=3456).contains(&value)
 }
 
-fn clear(list: &mut [u16])
-    ensures { list.new ≡ zeros (length list.old) }
-{
-    list.fill(0);
-}
-
-// Term after term into the list, one from each piece between commas.
+// Term after term into the list, one from each piece between commas. It answers a bool, as `polynomial` does.
 fn terms_into(s: &[u8], list: &mut [u16]) -> bool
     ensures { Reads result list.new (terms (length list.old) 0 list.old (split comma s.now)) }
 {
@@ -129,10 +115,10 @@ fn terms_into(s: &[u8], list: &mut [u16]) -> bool
     true
 }
 
-// Whether a polynomial was read is a yes or no: the list is the caller's, and is cleared first, whatever it held.
+// The list is cleared first, whatever it held. A bool stands beside it, since `Reads`, of which the promises speak, is said of a bool.
 pub fn polynomial(s: &[u8], list: &mut [u16]) -> bool
     ensures { Reads result list.new (polynomial (length list.old) s.now) }
 {
-    clear(list);
+    list.fill(0);
     s.is_empty() || terms_into(s, list)
 }

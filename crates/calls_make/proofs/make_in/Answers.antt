@@ -3,10 +3,10 @@
 use mathlib.Core.Path.{refl, ◌∙◌}
 use native.Mathlib.Omega.{arith}
 use Rattle.std.proofs.Common.{Ok, Err}
-use Rattle.residue.specs.Field.{generator, powq}
 use Rattle.algebra.specs.SlotBySlot.{is_zero}
 use Rattle.answers.specs.declared.Refusal.TheVariants.{ZeroSlot}
 use Rattle.answers.specs.Replies.{reply, leaves}
+use Rattle.slots.specs.Engines.{root}
 use Rattle.residue.proofs.ResiduesLaws.{own_length}
 use Rattle.answers.proofs.Exits.{done, found_at, found_nowhere}
 use Rattle.stages.proofs.ImageLaws.{residues_as}
@@ -20,21 +20,21 @@ returns-in-Some c =
     let engine = c.args.engine.now in
     let images = c.pair_images.ensures in
     found_at _ 4 is_zero _ (reply 0 0) (Err (ZeroSlot c.in-Some.at)) _ refl refl
-    (zero_slot engine.half (powq generator engine.step) c.args.seed.now images.f_after images.g_after c.first_zero.ensures c.first_zero-2.ensures c.in-Some.ensures)
+    (zero_slot engine.half (root engine) c.args.seed.now images.f_after images.g_after c.first_zero.ensures c.first_zero-2.ensures c.in-Some.ensures)
     (refl, refl)
 
 pub write_keys-requires-clause-images : goal.write_keys-requires-clause-images
 write_keys-requires-clause-images c =
     let engine = c.args.engine.now in
-    let f = f_residues engine.half (powq generator engine.step) c.args.seed.now c.pair_images.ensures.f_after c.pair_images.ensures.g_after in
-    let g = g_residues engine.half (powq generator engine.step) c.args.seed.now c.pair_images.ensures.f_after c.pair_images.ensures.g_after in
+    let f = f_residues engine.half (root engine) c.args.seed.now c.pair_images.ensures.f_after c.pair_images.ensures.g_after in
+    let g = g_residues engine.half (root engine) c.args.seed.now c.pair_images.ensures.f_after c.pair_images.ensures.g_after in
     (omega (arith, f.long), omega (arith, f.long, half_small engine.ready), own_length f, residues_as g refl f.long)
 
 pub returns : goal.returns
 unfolding leaves
 returns c =
     let engine = c.args.engine.now in
-    let w = powq generator engine.step in
+    let w = root engine in
     let images = c.pair_images.ensures in
     let seed = c.args.seed.now in
     found_nowhere _ 4 is_zero _ (reply 0 0)

@@ -4,10 +4,9 @@ use mathlib.Core.Bool.{false}
 use mathlib.Core.Path.{◌≡◌, refl, sym, ◌∙◌}
 use native.Mathlib.Omega.{arith}
 use lib.ListN.{length}
-use Rattle.std.proofs.Common.{rules, Err}
-use Rattle.answers.specs.declared.Refusal.TheVariants.{UnknownSet}
+use Rattle.std.proofs.Common.{rules}
 use Rattle.answers.specs.Replies.{leaves}
-use Rattle.answers.proofs.Exits.{unknown_set_lem, wrong_length_lem}
+use Rattle.answers.proofs.Exits.{unknown_exit, wrong_length_lem}
 use Rattle.answers.proofs.SetLaws.{IsSet, known_set}
 use Rattle.calls_open_1.specs.OpenOne.{open_one_reply, OpenOne}
 use Rattle.calls_open_1.proofs.OpenOnes.{fits, owed}
@@ -16,8 +15,7 @@ use Rattle.calls_open_1.proofs.open_1.Goals as goal
 pub returns-in_err-s : goal.returns-in_err-s
 unfolding OpenOne open_one_reply leaves
 returns-in_err-s c =
-    let refused : c.from_residual.result ≡ Err UnknownSet = search rules in
-    rw refused (unknown_set_lem _ c.args.set _ _ (sym c.set_of.ensures ∙ c.in_err-s.ensures.ok_part) (refl, refl))
+    unknown_exit _ c.args.set _ _ (search rules) c.set_of.ensures c.in_err-s.ensures.ok_part (refl, refl)
 
 pub returns-then-not-image-s : goal.returns-then-not-image-s
 unfolding OpenOne open_one_reply leaves

@@ -4,10 +4,9 @@ use mathlib.Core.Bool.{false}
 use mathlib.Core.Path.{◌≡◌, refl, sym, ◌∙◌}
 use native.Mathlib.Omega.{arith}
 use lib.ListN.{length}
-use Rattle.std.proofs.Common.{rules, Err}
-use Rattle.answers.specs.declared.Refusal.TheVariants.{UnknownSet}
+use Rattle.std.proofs.Common.{rules}
 use Rattle.answers.specs.Replies.{leaves}
-use Rattle.answers.proofs.Exits.{unknown_set_lem, wrong_length_lem}
+use Rattle.answers.proofs.Exits.{unknown_exit, wrong_length_lem}
 use Rattle.answers.proofs.SetLaws.{IsSet, known_set}
 use Rattle.calls_open_2.specs.OpenTwo.{open_two_reply, OpenTwo}
 use Rattle.calls_open_2.proofs.OpenTwos.{fits, owed}
@@ -16,8 +15,7 @@ use Rattle.calls_open_2.proofs.open_2.Goals as goal
 pub returns-in_err-s : goal.returns-in_err-s
 unfolding OpenTwo open_two_reply leaves
 returns-in_err-s c =
-    let refused : c.from_residual.result ≡ Err UnknownSet = search rules in
-    rw refused (unknown_set_lem _ c.args.set _ _ (sym c.set_of.ensures ∙ c.in_err-s.ensures.ok_part) refl)
+    unknown_exit _ c.args.set _ _ (search rules) c.set_of.ensures c.in_err-s.ensures.ok_part refl
 
 pub returns-then-not-message-s : goal.returns-then-not-message-s
 unfolding OpenTwo open_two_reply leaves

@@ -1,18 +1,20 @@
 -- `product` keeps its promise at each exit; what passes the tests are two elements of the set, which the engine multiplies.
 -- Assumes nothing.
 use mathlib.Core.Bool.{false, ◌&&◌}
-use mathlib.Core.Path.{◌≡◌, sym, ◌∙◌}
+use mathlib.Core.Path.{◌≡◌, refl, sym, ◌∙◌}
 use lib.Dec.{eqb}
 use lib.ListN.{length}
-use Rattle.std.proofs.Common.{rules, arith, Err}
-use Rattle.answers.specs.declared.Refusal.TheVariants.{UnknownSet}
-use Rattle.calls_product.proofs.Exits.{unknown_set, wrong_length, counts, through_both, found, elements, done}
+use Rattle.std.proofs.Common.{rules, arith}
+use Rattle.answers.specs.Replies.{leaves}
+use Rattle.answers.proofs.Exits.{unknown_exit}
+use Rattle.calls_product.specs.Product.{product_reply, Product}
+use Rattle.calls_product.proofs.Exits.{wrong_length, counts, through_both, found, elements, done}
 use Rattle.calls_product.proofs.product.Goals as goal
 
 pub returns-in_err-s : goal.returns-in_err-s
+unfolding Product product_reply leaves
 returns-in_err-s c =
-    let refused : c.from_residual.result ≡ Err UnknownSet = search rules in
-    rw refused (unknown_set c.args.set c.args.a.now c.args.b.now c.args.out.now (sym c.set_of.ensures ∙ c.in_err-s.ensures.ok_part))
+    unknown_exit _ c.args.set _ _ (search rules) c.set_of.ensures c.in_err-s.ensures.ok_part refl
 
 pub returns-then-not-out-s : goal.returns-then-not-out-s
 returns-then-not-out-s c =

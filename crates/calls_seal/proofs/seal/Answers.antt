@@ -3,10 +3,9 @@
 use mathlib.Core.Bool.{false}
 use mathlib.Core.Path.{◌≡◌, refl, sym, ◌∙◌}
 use lib.ListN.{length}
-use Rattle.std.proofs.Common.{rules, arith, Err}
-use Rattle.answers.specs.declared.Refusal.TheVariants.{UnknownSet}
+use Rattle.std.proofs.Common.{rules, arith}
 use Rattle.answers.specs.Replies.{leaves}
-use Rattle.answers.proofs.Exits.{unknown_set_lem, wrong_length_lem}
+use Rattle.answers.proofs.Exits.{unknown_exit, wrong_length_lem}
 use Rattle.answers.proofs.SetLaws.{known_set}
 use Rattle.calls_seal.specs.Seal.{seal_reply, Seal}
 use Rattle.calls_seal.proofs.Seals.{fits, lengths, owed}
@@ -15,8 +14,7 @@ use Rattle.calls_seal.proofs.seal.Goals as goal
 pub returns-in_err-s : goal.returns-in_err-s
 unfolding Seal seal_reply leaves
 returns-in_err-s c =
-    let refused : c.from_residual.result ≡ Err UnknownSet = search rules in
-    rw refused (unknown_set_lem _ c.args.set _ _ (sym c.set_of.ensures ∙ c.in_err-s.ensures.ok_part) (refl, refl))
+    unknown_exit _ c.args.set _ _ (search rules) c.set_of.ensures c.in_err-s.ensures.ok_part (refl, refl)
 
 pub returns-then-not-key-s : goal.returns-then-not-key-s
 unfolding Seal seal_reply leaves

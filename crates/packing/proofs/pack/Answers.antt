@@ -3,8 +3,9 @@
 use Rattle.std.proofs.Common.{◌≡◌, ◌+◌, ◌*◌, ◌/◌, ◌<◌, ◌++◌, length, get_or, drop, refl, sym, ap, ◌∙◌, arith}
 use Rattle.std.proofs.lemmas.List.{length-append, length-drop}
 use Rattle.lists.proofs.Fill.{fill_turn, fill_as, fill_list}
+use Rattle.lists.proofs.Parts.{part_at, part_rest}
 use Rattle.packing.specs.Packing.{three_bytes, packed}
-use Rattle.packing.proofs.PackingLaws.{length_packed, packed_at, part_at, part_rest, nth}
+use Rattle.packing.proofs.PackingLaws.{length_packed, packed_at, nth}
 use Rattle.packing.proofs.pack.Goals as goal
 
 pub loop-k-preserved : goal.loop-k-preserved

@@ -1,5 +1,6 @@
 -- `residue::by_three` meets its contract: the machine's remainder is one of -2, -1, 0, 1, 2, and each is tried.
 -- Assumes nothing.
+use Rattle.std.proofs.Common.{rules}
 use mathlib.Core.Path.{◌≡◌, refl, sym, ap, ◌∙◌}
 use Prim.Native.Nat.{ℕ, zero, suc, ◌%◌, ◌<◌}
 use native.Mathlib.Omega.{arith}
@@ -40,14 +41,13 @@ others =
     remainders (λ m t. (of_z w32 m ≡ 2 → ⊥) → (of_z w32 m ≡ 4294967294 → ⊥) → to_z w32 (of_z w32 m) ≡ t) (λ f g. absurd (g refl))
     (λ f g. refl) (λ f g. refl) (λ f g. refl) (λ f g. absurd (f refl))
 
-pub returns-then-m-eq2 : goal.returns-then-m-eq2
-returns-then-m-eq2 c =
-    sym (two (to_z w32 (of_z w32 c.args.value)) c.if-m-eq2.true) ∙ ap by_three (to_z-of_z c.ranges.value)
+-- what an arm says of a signed number has no name of its own, and is found
+pub returns-in-2 : goal.returns-in-2
+returns-in-2 c = sym (two (to_z w32 (of_z w32 c.args.value)) (search rules)) ∙ ap by_three (to_z-of_z c.ranges.value)
 
-pub returns-then-m : goal.returns-then-m
-returns-then-m c =
-    sym (minus_two (to_z w32 (of_z w32 c.args.value)) c.if-m.true) ∙ ap by_three (to_z-of_z c.ranges.value)
+pub returns-in-minus2 : goal.returns-in-minus2
+returns-in-minus2 c = sym (minus_two (to_z w32 (of_z w32 c.args.value)) (search rules)) ∙ ap by_three (to_z-of_z c.ranges.value)
 
-pub returns-else-m : goal.returns-else-m
-returns-else-m c =
-    others (to_z w32 (of_z w32 c.args.value)) c.if-m-eq2.false c.if-m.false ∙ ap by_three (to_z-of_z c.ranges.value)
+pub returns-in_default : goal.returns-in_default
+returns-in_default c =
+    others (to_z w32 (of_z w32 c.args.value)) (search rules) (search rules) ∙ ap by_three (to_z-of_z c.ranges.value)

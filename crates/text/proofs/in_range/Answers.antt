@@ -5,10 +5,10 @@ use Rattle.std.proofs.Common.{arith}
 use Rattle.text.specs.Terms.{allowed}
 use Rattle.text.proofs.in_range.Goals as goal
 
-pub returns-then-contains : goal.returns-then-contains
+pub returns-then-contains-clause-test : goal.returns-then-contains-clause-test
 unfolding allowed
-returns-then-contains c = grind (arith, nat_tests)
+returns-then-contains-clause-test c = grind (arith, nat_tests)
 
-pub returns-else-contains : goal.returns-else-contains
+pub returns-else-contains-clause-test : goal.returns-else-contains-clause-test
 unfolding allowed
-returns-else-contains c = grind (arith, nat_tests)
+returns-else-contains-clause-test c = grind (arith, nat_tests)

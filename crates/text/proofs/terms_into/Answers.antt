@@ -1,13 +1,27 @@
 -- `text::terms_into` meets its contract: at each turn the terms of the pieces left, into the list as it is, are what is left to do.
 -- Assumes nothing.
-use Rattle.std.proofs.Common.{◌≡◌, true, Some, rules, tests, refl, sym, ap, ◌∙◌, add-one, length, length-set, set, arith}
+use Rattle.std.proofs.Common.{◌≡◌, ◌∷◌, Some, rules, tests, refl, sym, ap, ◌∙◌, add-one, length, length-set, set}
 use Rattle.std.specs.Slice.Iter.{split_rest, split_done}
 use Rattle.text.specs.Lines.{comma, split}
-use Rattle.text.specs.Terms.{term, allowed, terms}
+use Rattle.text.specs.Terms.{term, terms}
 use Rattle.text.proofs.PolynomialLaws.{reads_none, reads_some}
 use Rattle.text.proofs.SplitLaws.{pieces_left, next_piece}
-use Rattle.text.proofs.TermLaws.{allowed_is, terms_none, terms_not, terms_refused, terms_more}
+use Rattle.text.proofs.TermLaws.{terms_none, terms_not, terms_refused, terms_more}
 use Rattle.text.proofs.terms_into.Goals as goal
+use Rattle.text.proofs.terms_into.Goals.{In-Some, In-Some-term}
+
+-- what is left to do at the turn of a piece
+turn : (c : In-Some)
+    → terms (length c.args.list.now) 0 c.args.list.now (split comma c.args.s.now)
+    ≡ terms (length c.args.list.now) c.loop-piece.low c.loop-piece.list
+    (c.in-Some.piece.now ∷ pieces_left comma (split_done c.next.new.self) (split_rest c.next.new.self))
+turn c =
+    let left = next_piece _ comma c.loop-piece.piece-iterator c.next.new.self c.in-Some.piece (λ a b q k. search (rules, tests)) c.in-Some.ensures.steps in
+    c.loop-piece.invariant.1 ∙ ap (terms (length c.args.list.now) c.loop-piece.low c.loop-piece.list) left
+
+-- the term that the piece is
+found : (c : In-Some-term) → term c.in-Some.piece.now ≡ Some (c.in-Some-term.index, c.in-Some-term.value)
+found c = sym c.term.ensures ∙ c.in-Some-term.is
 
 pub loop-piece-init : goal.loop-piece-init
 loop-piece-init c =
@@ -17,46 +31,23 @@ loop-piece-init c =
 
 pub returns-in_default : goal.returns-in_default
 returns-in_default c =
-    let left = next_piece _ comma c.loop-piece.piece-iterator c.next.new.self c.in-Some.piece (λ a b q k. search (rules, tests)) c.in-Some.ensures.steps in
-    reads_none _ (c.loop-piece.invariant.1 ∙ ap (terms (length c.args.list.now) c.loop-piece.low c.loop-piece.list) left ∙ terms_not _ _ _ c.in-Some.piece.now _ (sym c.term.ensures ∙ c.in_default.is))
+    reads_none _ (turn (goal.at.returns-in_default c).In-Some ∙ terms_not _ _ _ c.in-Some.piece.now _ (sym c.term.ensures ∙ c.in_default.is))
 
 pub returns-then-not-in_range : goal.returns-then-not-in_range
 returns-then-not-in_range c =
-    let left = next_piece _ comma c.loop-piece.piece-iterator c.next.new.self c.in-Some.piece (λ a b q k. search (rules, tests)) c.in-Some.ensures.steps in
-    let found : term c.in-Some.piece.now ≡ Some (c.in-Some-term.index, c.in-Some-term.value) = sym c.term.ensures ∙ c.in-Some-term.is in
-    reads_none _ (c.loop-piece.invariant.1 ∙ ap (terms (length c.args.list.now) c.loop-piece.low c.loop-piece.list) left ∙ terms_refused _ _ _ c.in-Some.piece.now _ _ _ found (sym c.in_range.ensures ∙ c.if-not-in_range.true))
-
-pub overflow_cast-list : goal.overflow_cast-list
-overflow_cast-list c =
-    let fine : allowed (length c.args.list.now) c.loop-piece.low c.in-Some-term.index c.in-Some-term.value ≡ true = sym c.in_range.ensures ∙ c.if-not-in_range.false in
-    omega (arith, (allowed_is _ _ _ _ fine).most)
-
-pub offset_bounds-list-index : goal.offset_bounds-list-index
-offset_bounds-list-index c =
-    let fine : allowed (length c.args.list.now) c.loop-piece.low c.in-Some-term.index c.in-Some-term.value ≡ true = sym c.in_range.ensures ∙ c.if-not-in_range.false in
-    omega (arith, (allowed_is _ _ _ _ fine).below)
-
-pub bounds-list-index : goal.bounds-list-index
-bounds-list-index c =
-    let fine : allowed (length c.args.list.now) c.loop-piece.low c.in-Some-term.index c.in-Some-term.value ≡ true = sym c.in_range.ensures ∙ c.if-not-in_range.false in
-    omega (arith, (allowed_is _ _ _ _ fine).below)
-
-pub overflow_add-low : goal.overflow_add-low
-overflow_add-low c =
-    let fine : allowed (length c.args.list.now) c.loop-piece.low c.in-Some-term.index c.in-Some-term.value ≡ true = sym c.in_range.ensures ∙ c.if-not-in_range.false in
-    omega (arith, (allowed_is _ _ _ _ fine).below)
+    let here = goal.at.returns-then-not-in_range c in
+    reads_none _ (turn here.In-Some
+    ∙ terms_refused _ _ _ c.in-Some.piece.now _ _ _ (found here.In-Some-term) (sym c.in_range.ensures.test ∙ c.if-not-in_range.true))
 
 pub loop-piece-preserved : goal.loop-piece-preserved
 loop-piece-preserved c =
-    let left = next_piece _ comma c.loop-piece.piece-iterator c.next.new.self c.in-Some.piece (λ a b q k. search (rules, tests)) c.in-Some.ensures.steps in
-    let found : term c.in-Some.piece.now ≡ Some (c.in-Some-term.index, c.in-Some-term.value) = sym c.term.ensures ∙ c.in-Some-term.is in
-    let fine : allowed (length c.args.list.now) c.loop-piece.low c.in-Some-term.index c.in-Some-term.value ≡ true = sym c.in_range.ensures ∙ c.if-not-in_range.false in
+    let here = goal.at.loop-piece-preserved c in
     let stored = set c.loop-piece.list c.in-Some-term.index c.in-Some-term.value in
     let others = pieces_left comma (split_done c.next.new.self) (split_rest c.next.new.self) in
     let next = ap (λ low. terms (length c.args.list.now) low stored others) (add-one c.in-Some-term.index) in (
       simp length-set c.loop-piece.invariant.0,
-      c.loop-piece.invariant.1 ∙ ap (terms (length c.args.list.now) c.loop-piece.low c.loop-piece.list) left
-          ∙ terms_more _ _ _ c.in-Some.piece.now others _ _ found fine ∙ sym next,
+      turn here.In-Some
+          ∙ terms_more _ _ _ c.in-Some.piece.now others _ _ (found here.In-Some-term) (sym c.in_range.ensures.test ∙ c.if-not-in_range.false) ∙ sym next,
     )
 
 pub returns : goal.returns
