@@ -76,7 +76,7 @@ pub fn zeros_but(place: usize, number: u16) -> [u16; NUMBERS]
     room
 }
 
-// The numbers 0, 1, .., 1152.
+// The numbers 0, 1, .., 1152. Each fits in 16 bits; `try_from` would bring a failure that can't happen.
 pub fn ramp() -> [u16; NUMBERS]
     ensures length { NUMBERS ≡ length result }
     ensures numbers { EachIndex result (λ k. slice_index result k ≡ k) }
@@ -88,7 +88,8 @@ pub fn ramp() -> [u16; NUMBERS]
     room
 }
 
-// Writes three bytes again and again, as often as all three fit.
+// Writes three bytes again and again, as often as all three fit. Here, in `count_up` and in `unpack` each turn tests its place: of what
+// `take` of `iter_mut` writes, a proof knows no more than the length.
 fn repeat(room: &mut [u8], bytes: [u8; 3])
     ensures bytes { (k : ℕ) → k < length room.old / 3 * 3 → slice_index room.new k ≡ slice_index bytes (k % 3) }
     ensures rest { (k : ℕ) → length room.old / 3 * 3 ≤ k → slice_index room.new k ≡ slice_index room.old k }

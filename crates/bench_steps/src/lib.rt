@@ -63,7 +63,7 @@ pub extern "C" fn step_pack(list: &[u16], bytes: &mut [u8]) {
     }
 }
 
-// The first group above 3456, or the length of the list; 0 where nothing is done.
+// The first group above 3456, or the length of the list; 0 where nothing is done. An exported function can't return an `Option`.
 #[unsafe(no_mangle)]
 pub extern "C" fn step_unpack(bytes: &[u8], list: &mut [u16]) -> usize {
     if list.len() <= 4096 && list.len() % 2 == 0 && bytes.len() == 3 * (list.len() / 2) {

@@ -31,7 +31,7 @@ fn half_word_bit(bytes: &[u8], u: usize, l: usize) -> u8
     ((half_word >> l) % 2) as u8
 }
 
-// Bit l of each half word.
+// Bit l of each half word. The bytes are read by the place: of what a `zip` of `iter_mut` writes, a proof knows no more than the length.
 fn list_row(bytes: &[u8], l: usize, row: &mut [u8])
     requires { (2 * length row.old ≤ length bytes.now) × (l < 16) }
     ensures { row.new ≡ tab (length row.old) (λ u. bit_of bytes.now (16 * u + l)) }

@@ -56,7 +56,8 @@ pub fn encode(
     encode_bits(bits, halves, coefficients);
 }
 
-// The message bits that marks and the bits of two halves decode to.
+// The message bits that marks and the bits of two halves decode to. A function over the step, for this and `encode_bits`, would be no
+// shorter: they read and write other things.
 fn decode_bits(marks: &[u8], halves: &[u8], bits: &mut [u8])
     requires { (length marks.now ≡ length bits.old) × (length halves.now ≡ length bits.old + length bits.old) × Below 3 marks.now × Below 2 halves.now }
     ensures { bits.new ≡ tab (length bits.old) (λ i. decode_bit (of_mark (get_or marks.now i 0)) (get_or halves.now i 0) (get_or halves.now (length bits.old + i) 0)) }

@@ -96,7 +96,8 @@ fn in_range(n: usize, low: usize, index: usize, value: usize) -> bool
     (low..n).contains(&index) && (1..=3456).contains(&value)
 }
 
-// Term after term into the list, one from each piece between commas. It answers a bool, as `polynomial` does.
+// Term after term into the list, one from each piece between commas. It answers a bool, as `polynomial` does, for `Reads`. A value that
+// is in range fits in 16 bits; `try_from` would bring a failure that can't happen.
 fn terms_into(s: &[u8], list: &mut [u16]) -> bool
     ensures { Reads result list.new (terms (length list.old) 0 list.old (split comma s.now)) }
 {
