@@ -3,6 +3,7 @@ ghost use Rattle.std.specs.Prelude.{◌≡◌, ◌↔◌, ℕ, ◌+◌, ◌*◌,
 ghost use Rattle.std.proofs.Common.{rules, true};
 ghost use Rattle.bench_rooms.specs.Rooms.{IsRoomOf, number_at, stored, unpacked_count};
 
+// Where a clause says how long a room is, it says the number: by these names it would hold for any other.
 pub const BYTES: usize = 3457;
 
 pub const NUMBERS: usize = 1153;
@@ -68,7 +69,7 @@ fn put<T: Copy>(room: &mut [T], values: &[(usize, T)])
 
 // A list of zeros but for one number.
 pub fn zeros_but(place: usize, number: u16) -> [u16; NUMBERS]
-    ensures length { NUMBERS ≡ length result }
+    ensures length { 1153 ≡ length result }
     ensures numbers { result ≡ slice_set (replicate NUMBERS 0) place number }
 {
     let mut room = [0; NUMBERS];
@@ -78,7 +79,7 @@ pub fn zeros_but(place: usize, number: u16) -> [u16; NUMBERS]
 
 // The numbers 0, 1, .., 1152. Each fits in 16 bits; `try_from` would bring a failure that can't happen.
 pub fn ramp() -> [u16; NUMBERS]
-    ensures length { NUMBERS ≡ length result }
+    ensures length { 1153 ≡ length result }
     ensures numbers { EachIndex result (λ k. slice_index result k ≡ k) }
 {
     let mut room = [0; NUMBERS];
@@ -127,7 +128,7 @@ pub const ZEROS: Input<'static> = Input::Filled(0);
 
 impl Input<'_> {
     pub fn room(self) -> [u8; BYTES]
-        ensures length { BYTES ≡ length result }
+        ensures length { 3457 ≡ length result }
         ensures bytes { IsRoomOf self.entry result }
     {
         let mut room = [0; BYTES];

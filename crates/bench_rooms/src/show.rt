@@ -45,16 +45,17 @@ impl fmt::Display for Outcome {
     }
 }
 
-// The first bytes, and how often they stand there from the start on.
+// The first bytes, and how often they stand there from the start on. For a period of 0 no number is printed.
 #[derive(Clone, Copy)]
 pub struct Periods<'a> {
     pub bytes: &'a [u8],
     pub period: usize,
-    ghost nonzero: { 0 < period },
 }
 
 impl Periods<'_> {
-    fn count(&self) -> usize {
+    fn count(&self) -> usize
+        requires { 0 < self.now.period }
+    {
         let first = part(self.bytes, self.period);
         self.bytes
             .chunks_exact(self.period)
@@ -68,7 +69,11 @@ impl fmt::Display for Periods<'_> {
         for byte in part(self.bytes, self.period) {
             write!(f, "{byte:02X} ")?;
         }
-        write!(f, "x {}", self.count())
+        write!(f, "x ")?;
+        if self.period > 0 {
+            write!(f, "{}", self.count())?;
+        }
+        Ok(())
     }
 }
 

@@ -75,7 +75,8 @@ pub extern "C" fn step_unpack(bytes: &[u8], list: &mut [u16]) -> usize {
 
 #[unsafe(no_mangle)]
 pub extern "C" fn step_times(a: &[u16], b: &[u16], out: &mut [u16]) {
-    if are_residues(a, out.len()) && are_residues(b, out.len()) {
+    // b's length first (`are_residues` tests a's), so that a wrong length is refused before a list is read.
+    if b.len() == out.len() && are_residues(a, out.len()) && are_residues(b, out.len()) {
         slotwise::times(a, b, out);
     }
 }

@@ -2,6 +2,7 @@
 #![tactic(auto)]
 
 ghost use Rattle.std.specs.Prelude.{[], ◌∷◌, ◌≡◌, ◌+◌, ◌*◌, ◌%◌, length};
+ghost use Rattle.residue.specs.Field.{generator, powq};
 ghost use Rattle.packing.specs.Packing.{groups};
 ghost use Rattle.slots.specs.Engines.{root};
 ghost use Rattle.answers.specs.Replies.{reply, leaves, Outcome};
@@ -40,6 +41,34 @@ fn seal_in(
     Ok(())
 }
 
+// With buffers of the right lengths, too. Never inlined: a function clears the engine's table on entry, and a refusal shall not pay for that.
+#[inline(never)]
+fn seal_known(
+    half: usize,
+    step: usize,
+    public: &[u8],
+    message: &[u8],
+    hblock: &[u8],
+    gblock: &[u8],
+    cipher: &mut [u8],
+    key: &mut [u8],
+) -> Answer
+    requires turns { step * (6 * half) ≡ 3456 }
+    requires blocks { (length message.now % 4 ≡ 0) × (half ≡ 4 * length message.now) × (length hblock.now ≡ 32 + length gblock.now) × (length gblock.now ≡ 2 * length message.now) }
+    requires buffers { (length public.now ≡ 3 * half) × (length cipher.old ≡ 3 * half) × (length key.old ≡ 32) }
+    ensures { Outcome (in_range (groups public.now ∷ []) (reply 0 0)) result (λ R. (cipher.new ≡ leaves R (ciphertext half (powq generator step) public.now message.now hblock.now gblock.now) cipher.old) × (key.new ≡ leaves R (key_bytes hblock.now) key.old)) }
+{
+    seal_in(
+        &Engine::new(half, step),
+        public,
+        message,
+        hblock,
+        gblock,
+        cipher,
+        key,
+    )
+}
+
 pub fn seal(
     set: usize,
     public: &[u8],
@@ -61,13 +90,5 @@ pub fn seal(
     {
         return Err(Refusal::WrongLength);
     }
-    seal_in(
-        &Engine::new(s.half, s.step),
-        public,
-        message,
-        hblock,
-        gblock,
-        cipher,
-        key,
-    )
+    seal_known(s.half, s.step, public, message, hblock, gblock, cipher, key)
 }

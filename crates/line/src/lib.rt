@@ -13,7 +13,7 @@ use text::past;
 // The most bytes that an input may have.
 pub const LONGEST: usize = 32768;
 
-// Room for all that can be printed.
+// Room for all that can be printed. `line` says the number again, so that another one is refused.
 pub const OUTPUT_ROOM: usize = 16384;
 
 // The input's set, and in front of the list the product of its two polynomials. A set is named by how long they are.
@@ -48,6 +48,7 @@ fn product_in(input: &[u8], list: &mut [u16; 1152]) -> Result<usize, Refusal>
 pub fn line(input: &[u8], output: &mut [u8; OUTPUT_ROOM]) -> usize
     ensures { Line input.now output.old result output.new }
 {
+    prove!(output.len() == 16384);
     let mut list = rooms::numbers();
     match product_in(input, &mut list) {
         Ok(set) => put_lines(set, &list[..set], output),

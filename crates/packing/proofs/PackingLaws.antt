@@ -6,10 +6,12 @@ use Prim.Native.Nat.{ℕ, ◌+◌, ◌*◌, ◌/◌, ◌<◌}
 use native.Mathlib.Omega.{arith}
 use lib.ListN.{length, get_or, length-append, get_or-append}
 use lib.Seq.{get_or-append-add}
+use Rattle.std.proofs.Common.{None, position}
 use Rattle.lists.specs.Tab.{tab}
 use Rattle.lists.specs.Below.{Below}
-use Rattle.residue.specs.Large.{first_large}
+use Rattle.residue.specs.Large.{too_large, first_large}
 use Rattle.residue.specs.Residues.{Residues}
+use Rattle.lists.proofs.FirstLaws.{position_none, position_nowhere}
 use Rattle.lists.proofs.Flat.{length_flat, flat_at, flat_of, flat_add}
 use Rattle.lists.proofs.TabLaws.{tab_cong}
 use Rattle.residue.proofs.LargeLaws.{residues_of, none_large}
@@ -125,3 +127,16 @@ unpack_pack k {v} r =
 pub pack_unpack : (k : ℕ) {bs : List ℕ} → length bs ≡ 3 * k → Below 256 bs → first_large (groups bs) ≡ 2 * k
     → Residues (2 * k) (groups bs) × (packed (groups bs) ≡ bs)
 pack_unpack k {bs} e bytes none = (residues_of (groups bs) (omega (arith, length_groups bs, e)) none, packed_groups k bs e bytes)
+
+-- the same two of what `unpack` answers: none for packed residues, and nothing else for bytes where it answers none
+pub unpack_pack_none : (k : ℕ) {v : List ℕ} → Residues (2 * k) v → (groups (packed v) ≡ v) × (position too_large (groups (packed v)) ≡ None)
+unfolding first_large
+unpack_pack_none k {v} r =
+    let back = unpack_pack k r in
+    (back.0, position_nowhere too_large (groups (packed v)) (omega (arith, ap length back.0, r.long, back.1)))
+
+pub pack_unpack_none : (k : ℕ) {bs : List ℕ} → length bs ≡ 3 * k → Below 256 bs → position too_large (groups bs) ≡ None
+    → Residues (2 * k) (groups bs) × (packed (groups bs) ≡ bs)
+unfolding first_large
+pack_unpack_none k {bs} e bytes none =
+    pack_unpack k e bytes (position_none too_large (groups bs) none ∙ omega (arith, length_groups bs, e))

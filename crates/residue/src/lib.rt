@@ -2,15 +2,15 @@
 #![tactic(auto)]
 
 ghost use Rattle.std.specs.Prelude.{◌≡◌, ◌<◌};
-ghost use Rattle.residue.specs.Field.{q, addq, subq, negq, mulq, powq, invq};
+ghost use Rattle.residue.specs.Field.{q, one, generator, addq, subq, negq, mulq, powq, invq};
 ghost use Rattle.residue.specs.Signed.{centred, by_three, centred_by_three};
 
 pub mod scan;
 
-// The numbers that stand for one and for the generator. A clause can name these numbers; it can't name a constant whose type has an invariant.
-pub const ONE: u16 = 1;
+// The numbers that the residue's own constants hold, for clauses: a clause can't name a constant whose type has an invariant.
+pub const ONE: u16 = Residue::ONE.value;
 
-pub const GENERATOR: u16 = 7;
+pub const GENERATOR: u16 = Residue::GENERATOR.value;
 
 // A residue modulo 3457, by the number below 3457 that stands for it. A list of residues stays a list of numbers, with `Residues` in
 // contracts. C lends such lists, and they are tested where they lie; each step writes into a lent list too, so a type for checked
@@ -24,9 +24,16 @@ pub struct Residue {
 impl Residue {
     pub const ZERO: Residue = Residue { value: 0 };
 
-    pub const ONE: Residue = Residue { value: ONE };
+    pub const ONE: Residue = Residue { value: 1 };
 
-    pub const GENERATOR: Residue = Residue { value: GENERATOR };
+    pub const GENERATOR: Residue = Residue { value: 7 };
+
+    // A law, which no code calls: the constants are 0 and the definitions' `one` and `generator`.
+    pub fn constants() -> (Residue, Residue, Residue)
+        ensures { (result.0.value ≡ 0) × (result.1.value ≡ one) × (result.2.value ≡ generator) }
+    {
+        (Residue::ZERO, Residue::ONE, Residue::GENERATOR)
+    }
 
     pub fn add(self, other: Residue) -> Residue
         ensures { result.value ≡ addq self.value other.value }

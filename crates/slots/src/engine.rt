@@ -2,12 +2,13 @@
 ghost use Rattle.std.specs.Prelude.{◌≡◌, ◌*◌};
 ghost use Rattle.slots.specs.Ready.{Ready};
 
-// h = n/2, the step with w = 7^step, and the table of powers of 7, whose order is 6h steps.
+// The table of powers of 7, h = n/2, and the step with w = 7^step: the table's order is 6h steps. The table is first, where it is read by
+// the shortest instruction.
 #[derive(Drop)]
 pub struct Engine {
+    pub(crate) powers: [u16; 3456],
     pub half: usize,
     pub step: usize,
-    pub(crate) powers: [u16; 3456],
     pub ghost ready: { Ready half step powers },
 }
 

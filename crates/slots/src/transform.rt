@@ -57,7 +57,9 @@ impl Engine {
         sum
     }
 
-    // Slot k is the value of a at its point.
+    // Slot k is the value of a at its point. Never inlined, so that all calls share one copy of the loop: how long a turn takes depends on
+    // where in a program the loop stands.
+    #[inline(never)]
     pub fn transform(&self, a: &[u16], out: &mut [u16])
         requires { Residues (size self.now) a.now × (length out.old ≡ size self.now) }
         ensures { out.new ≡ image self.now.half (root self.now) a.now }

@@ -23,15 +23,13 @@ returns-then-not-key-s c =
     let wrong : fits (length a.public.now) (length a.message.now) (length a.hblock.now) (length a.gblock.now) (length a.cipher.now) (length a.key.now) c.in_ok-s.s ≡ false = grind arith steps 40000000 in
     wrong_length_lem _ a.set _ _ c.in_ok-s.s (sym c.set_of.ensures ∙ c.in_ok-s.ensures.ok_part) wrong (refl, refl)
 
-pub new-requires : goal.new-requires
-new-requires c = (known_set c.args.set _ (sym c.set_of.ensures ∙ c.in_ok-s.ensures.ok_part)).turns
-
-pub seal_in-requires : goal.seal_in-requires
-seal_in-requires c =
-    let l = lengths _ _ _ _ _ _ c.args.set _ (sym c.set_of.ensures ∙ c.in_ok-s.ensures.ok_part) c.if-not-key-s.false c.new.ensures.0 in
-    record { blocks = (l.0, l.1, l.2, l.3); buffers = (l.4, l.5, l.6) }
+pub seal_known-requires : goal.seal_known-requires
+seal_known-requires c =
+    let known = sym c.set_of.ensures ∙ c.in_ok-s.ensures.ok_part in
+    let l = lengths _ _ _ _ _ _ c.args.set _ known c.if-not-key-s.false refl in
+    record { turns = (known_set c.args.set _ known).turns; blocks = (l.0, l.1, l.2, l.3); buffers = (l.4, l.5, l.6) }
 
 pub returns : goal.returns
 returns c =
     owed c.args.public.now c.args.message.now c.args.hblock.now c.args.gblock.now c.args.cipher.now c.args.key.now _ _ c.args.set _
-    (sym c.set_of.ensures ∙ c.in_ok-s.ensures.ok_part) c.if-not-key-s.false c.new.ensures _ c.seal_in.ensures
+    (sym c.set_of.ensures ∙ c.in_ok-s.ensures.ok_part) c.if-not-key-s.false (refl, refl) _ c.seal_known.ensures
