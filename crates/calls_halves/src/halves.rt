@@ -6,9 +6,16 @@ pub(crate) fn halves(set: usize, key: &[u8]) -> (&[u8], &[u8])
     ensures first { FHalf set key.now key.entry.ref_ptr result.0.now result.0.ref_ptr }
     ensures second { HHalf set key.now key.entry.ref_ptr result.1.now result.1.ref_ptr }
 {
-    // Cut by ranges: what `split_at` promises of its parts does not say where they stand.
+    // Cut by ranges: what `split_at` promises of its parts does not say where they stand. No guard at `Some(s)`: with one, the compiled call
+    // tests twice whether the set is known.
     match answers::set_of(set) {
-        Some(s) if key.len() == s.private => (&key[..s.packed], &key[s.packed..]),
-        _ => (&key[..0], &key[..0]),
+        None => (&key[..0], &key[..0]),
+        Some(s) => {
+            if key.len() == s.private {
+                (&key[..s.packed], &key[s.packed..])
+            } else {
+                (&key[..0], &key[..0])
+            }
+        }
     }
 }

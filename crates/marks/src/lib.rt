@@ -56,8 +56,9 @@ pub fn unmark(marks: &[u8], list: &mut [u16])
     }
 }
 
-// The place of the first byte that is no mark.
+// The place of the first byte that is no mark. Never inlined: how long a turn of the search takes depends on where in a program it stands.
 #[tactic(auto, unfolding(crate::specs::Marks::no_mark))]
+#[inline(never)]
 pub fn first_bad(marks: &[u8]) -> Option<usize>
     ensures { result ≡ position no_mark marks.now }
 {

@@ -16,7 +16,9 @@ pub fn plus_product(sum: Residue, x: Residue, y: Residue) -> Residue
     sum.add(x.mul(y))
 }
 
-// The sum of a_i b_(m - i) over the places i below `end`. Below `from` b_(m - i) is past the end of b, and counts nothing.
+// The sum of a_i b_(m - i) over the places i below `end`. Below `from` b_(m - i) is past the end of b, and counts nothing. Never inlined,
+// so that all coefficients share one copy of the loop: how long a turn takes depends on where in a program the loop stands.
+#[inline(never)]
 fn dot(a: &[u16], b: &[u16], m: usize, from: usize, end: usize) -> Residue
     requires residues { Residues (length a.now) a.now × Residues (length b.now) b.now }
     requires from_value { (from ≡ m + 1 - length b.now) × (from ≤ end) × (end ≤ length a.now) × (end ≤ m + 1) }

@@ -11,10 +11,9 @@ use Rattle.answers.proofs.SetLaws.{IsSet, known_set}
 use Rattle.calls_halves.specs.Halves.{handed, further}
 use Rattle.calls_halves.proofs.HalvesLaws.{nothing_further, handed_unknown, handed_known, handed_other, middle}
 use Rattle.calls_halves.proofs.halves.halves.Goals as goal
-use Rattle.calls_halves.proofs.halves.halves.Goals.{in_default-via-in-Some+else-key-s, in_default-via-in_default}
 
-pub slice_bounds-result-end : goal.slice_bounds-result-end
-slice_bounds-result-end c =
+pub slice_bounds-result-end-then-key-s : goal.slice_bounds-result-end-then-key-s
+slice_bounds-result-end-then-key-s c =
     let set : IsSet c.args.set c.in-Some.s = known_set _ _ (sym c.in-Some.ensures) in
     sym (length-take-le _ _ (omega arith))
 
@@ -28,9 +27,9 @@ slice_bounds-result-start c =
     let set : IsSet c.args.set c.in-Some.s = known_set _ _ (sym c.in-Some.ensures) in
     omega arith
 
-pub returns-in-Some : goal.returns-in-Some
+pub returns-then-key-s : goal.returns-then-key-s
 unfolding first_half second_half further
-returns-in-Some c =
+returns-then-key-s c =
     let e = handed_known c.args.set c.args.key.now _ (sym c.in-Some.ensures) c.if-key-s.true in
     let m = middle c.args.set c.args.key.now _ (sym c.in-Some.ensures) c.if-key-s.true in
     record {
@@ -41,13 +40,17 @@ returns-in-Some c =
       };
     }
 
-pub returns-in_default : goal.returns-in_default
-returns-in_default c =
-    let e : handed c.args.set c.args.key.now ≡ false =
-    elim c.in_default.branch [
-      | in_default-via-in-Some+else-key-s w ↦ handed_other c.args.set c.args.key.now _ (sym w.in-Some.ensures) w.if-key-s.false
-      | in_default-via-in_default w ↦ handed_unknown c.args.set c.args.key.now (sym w.in_default.ensures)
-    ] in
+pub returns-else-key-s : goal.returns-else-key-s
+returns-else-key-s c =
+    let e = handed_other c.args.set c.args.key.now _ (sym c.in-Some.ensures) c.if-key-s.false in
+    record {
+      first = record { content = rw e refl; lent = refl };
+      second = record { content = rw e refl; lent = rw e (nothing_further c.args.key.ref_ptr) };
+    }
+
+pub returns-in-None : goal.returns-in-None
+returns-in-None c =
+    let e = handed_unknown c.args.set c.args.key.now (sym c.in-None.ensures) in
     record {
       first = record { content = rw e refl; lent = refl };
       second = record { content = rw e refl; lent = rw e (nothing_further c.args.key.ref_ptr) };
