@@ -56,7 +56,7 @@ pub fn unmark(marks: &[u8], list: &mut [u16])
     }
 }
 
-// The place of the first byte that is no mark. Never inlined: how long a turn of the search takes depends on where in a program it stands.
+// The place of the first byte that is no mark. Never inlined: how long a turn takes depends on where in a program the loop stands.
 #[tactic(auto, unfolding(crate::specs::Marks::no_mark))]
 #[inline(never)]
 pub fn first_bad(marks: &[u8]) -> Option<usize>
